@@ -1,0 +1,5 @@
+pub mod Ascii
+pub mod Bits
+pub mod Checks
+pub mod Computed
+pub mod Words

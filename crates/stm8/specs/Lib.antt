@@ -1,0 +1,4 @@
+pub mod OpcodeMap
+pub mod Encoding
+pub mod Decoding
+pub mod Effects
