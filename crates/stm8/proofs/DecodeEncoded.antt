@@ -4,8 +4,9 @@ use mathlib.Core.List.{List, [], _∷_, _++_}
 use mathlib.Core.Bool.{Bool, true, false, cond}
 use Prim.Native.Nat.{ℕ, _<_, _≤_, _+_, _*_}
 use native.Mathlib.Omega.{arith}
-use borrow.Author.Tests.{ltb-true}
-use lib.Dec.{T, ltb, leb, leb→le, ltb→lt, lt→ltb}
+use borrow.Author.Tests.{ltb-true, leb-true}
+use lib.Dec.{T, ltb, leb, leb→le, lt→ltb}
+use lib.Seq.{take-take, take-append-seam}
 use lib.ListN.{getD, length, length-append, take}
 use Rattle.numbers.specs.Words.{high, low}
 use Rattle.numbers.proofs.Computing.{below}
@@ -34,20 +35,20 @@ use Rattle.stm8.specs.declared.FlagOp.the-variants.{Ccf, Rcf, Rvf, Scf}
 use Rattle.stm8.specs.declared.Instruction.{Instruction}
 use Rattle.stm8.specs.declared.Instruction.the-variants.{Alu, Store, LoadHalf, StoreHalf, Modify, LoadWord, StoreWord, CopyWord, WordAlu, WordModify, Pushw, Popw, Exgw, Mul, Bit, BitJump, Mov, Push, Pop, SubSp, AddSp, Jump, Call, Callr, Ret, Nop, Flag}
 
--- what the map has at the front of bytes, and whether they have an op-code
+-- what the map has at the front of bytes, whether they have an op-code, and whether they are at most five
 data Seen : Type 0 where
-  seen : Entry → Bool → Seen
+  seen : Entry → Bool → Bool → Seen
 
 -- an instruction's bytes, with `rest` after them
 module _ (rest : List ℕ) where
   abbrev front : List ℕ → Seen
-  front s = seen (entryIn (pageOf (getD (s ++ rest) 0 0)) (s ++ rest)) (ltb (precodes (pageOf (getD (s ++ rest) 0 0))) (length s))
+  front s = seen (entryIn (pageOf (getD (s ++ rest) 0 0)) (s ++ rest)) (ltb (precodes (pageOf (getD (s ++ rest) 0 0))) (length s)) (leb (length s) 5)
 
   abbrev got : Instruction → Seen
   got i = front (bytesOf i)
 
   abbrev due : Instruction → Seen
-  due i = seen (Is i) true
+  due i = seen (Is i) true true
 
   abbrev Back : Instruction → Type 0
   Back i = T (ltb 0 (length (bytesOf i))) → got i ≡ due i
@@ -223,16 +224,47 @@ module _ (rest : List ℕ) where
   back (Flag Rvf) t = refl
   back (Flag Scf) t = refl
 
--- an instruction that has bytes is decoded from them
-pub decode-bytes : (i : Instruction) (rest : List ℕ) → 0 < length (bytesOf i) → decoded (bytesOf i ++ rest) ≡ Found i (length (bytesOf i))
-decode-bytes i rest some =
-    let e : got rest i ≡ due rest i = back rest i (lt→ltb 0 (length (bytesOf i)) some) in
-    let size : length (bytesOf i ++ rest) ≡ length (bytesOf i) + length rest = length-append (bytesOf i) rest in
-    let op : precodes (pageOf (getD (bytesOf i ++ rest) 0 0)) < length (bytesOf i) = ltb-true _ _ (second e) in
-    opened (bytesOf i ++ rest) i (entry-of e) (omega arith) some (omega arith)
-  where
-    entry-of : {a b : Entry} {p q : Bool} → seen a p ≡ seen b q → a ≡ b
-    entry-of e = cc
+module _ (i : Instruction) (some : 0 < length (bytesOf i)) where
+  seen-front : (rest : List ℕ) → got rest i ≡ due rest i
+  seen-front rest = back rest i (lt→ltb 0 (length (bytesOf i)) some)
 
-    second : {a b : Entry} {p q : Bool} → seen a p ≡ seen b q → p ≡ q
-    second e = cc
+  pub bytes-short : length (bytesOf i) ≤ 5
+  bytes-short = leb-true _ _ (third (seen-front []))
+    where
+      third : {a b : Entry} {p q u v : Bool} → seen a p u ≡ seen b q v → u ≡ v
+      third e = cc
+
+  -- an instruction that has bytes is decoded from them
+  pub decode-bytes : (rest : List ℕ) → decoded (bytesOf i ++ rest) ≡ Found i (length (bytesOf i))
+  decode-bytes rest =
+      let size : length (bytesOf i ++ rest) ≡ length (bytesOf i) + length rest = length-append (bytesOf i) rest in
+      let op : precodes (pageOf (getD (bytesOf i ++ rest) 0 0)) < length (bytesOf i) = ltb-true _ _ (second (seen-front rest)) in
+      opened (bytesOf i ++ rest) i (first (seen-front rest)) (omega arith) some (omega arith)
+    where
+      first : {a b : Entry} {p q u v : Bool} → seen a p u ≡ seen b q v → a ≡ b
+      first e = cc
+
+      second : {a b : Entry} {p q u v : Bool} → seen a p u ≡ seen b q v → p ≡ q
+      second e = cc
+
+-- five bytes hold a list of one to five, and their length says how many
+padded-some : (s : List ℕ) → padded s .number ≡ 0 → 0 < length s
+padded-some [] e = let z : ⊥ = omega (arith, e) in absurd z
+padded-some (x ∷ s) e = omega arith
+
+padded-length : (s : List ℕ) → padded s .length ≡ length s
+padded-length [] = refl
+padded-length (x ∷ s) = refl
+
+padded-bytes : (s : List ℕ) → 0 < length s → length s ≤ 5 → take (length s) (padded s .bytes) ≡ s
+padded-bytes [] h g = let z : ⊥ = omega (arith, h) in absurd z
+padded-bytes (x ∷ s) h g =
+    let zeros : List ℕ = 0 ∷ 0 ∷ 0 ∷ 0 ∷ 0 ∷ [] in
+    take-take (length (x ∷ s)) 5 ((x ∷ s) ++ zeros) g ∙ take-append-seam (x ∷ s) zeros
+
+-- what was encoded: the number is 0 and as many of the five bytes as the length says are decoded, whatever comes after them
+pub decode-encoded : (i : Instruction) (rest : List ℕ) → encoded i .number ≡ 0 →
+    decoded (take (encoded i .length) (encoded i .bytes) ++ rest) ≡ Found i (encoded i .length)
+decode-encoded i rest e =
+    let some = padded-some (bytesOf i) e in
+    rw (padded-length (bytesOf i), padded-bytes (bytesOf i) some (bytes-short i some)) (decode-bytes i some rest)
