@@ -1,13 +1,14 @@
 -- Sums and lists of checks: one element more, and what it means that every check passes.
-use Prim.Native.Nat.{ℕ, suc, zero, _+_, _<_, suc-le-suc, zero-le}
+use Prim.Native.Nat.{ℕ, suc, zero, _+_, _<_, _≤_, suc-le-suc, zero-le}
 use mathlib.Core.Path.{_≡_, refl, sym, _∙_, ap}
 use mathlib.Core.Bool.{Bool, true, false, cond}
 use mathlib.Core.List.{List, [], _∷_, _++_, foldr, map, sum, sum-append}
 use native.Mathlib.Numerals.{add-one}
+use native.Mathlib.Omega.{arith}
 use native.Mathlib.Nat.{add-zero, zero-add, add-assoc, le-of-suc-le-suc, not-suc-le-zero}
 use lib.Dec.{eqb}
-use lib.ListN.{length, getD, take}
-use lib.Seq.{take-suc}
+use lib.ListN.{length, getD, take, drop, take-append-drop}
+use lib.Seq.{take-suc, take-take}
 use borrow.Author.Tests.{eqb-true}
 use Rattle.numbers.specs.Checks.{first}
 use Rattle.numbers.specs.Folds.{total, firstIn}
@@ -43,6 +44,17 @@ total-more = fold-more _+_ 0 zero-add add-zero add-assoc
 
 pub firstIn-more : (l : List ℕ) (k d : ℕ) → k < length l → firstIn (take (k + 1) l) ≡ first (firstIn (take k l)) (getD l k d)
 firstIn-more = fold-more first 0 first-pass first-none first-assoc
+
+-- the sum of a front part, and of a longer one
+pub total-split : (k : ℕ) (l : List ℕ) → total (take k l) + total (drop k l) ≡ total l
+unfolding sum
+total-split k l = sym (sum-append _+_ 0 zero-add add-assoc (take k l) (drop k l)) ∙ ap total (take-append-drop k l)
+
+pub total-front : (k : ℕ) (l : List ℕ) → total (take k l) ≤ total l
+total-front k l = omega (arith, total-split k l)
+
+pub total-rises : (j k : ℕ) (l : List ℕ) → j ≤ k → total (take j l) ≤ total (take k l)
+total-rises j k l h = rw (take-take j k l h) at (total-front j (take k l))
 
 -- every check of a list passes
 abbrev pub Passed : List ℕ → Type 0
