@@ -52,17 +52,3 @@ mark-checked image same h f g =
     let e = three image (omega arith) in
     rw (under-pass (length image) 8 2 h, first-pass)
     (letters (getD image 0 0) (getD image 1 0) (getD image 2 0) same (λ t. sym e ∙ f t) (λ t. g (e ∙ t)))
-
-module _ (image : List ℕ) (layout : Layout) (lengths : ℕ) (laid : layout ≡ layoutOf image) (listed : lengths ≡ lengthsCheck image) where
-  pub layout-checked :
-      first (first (first (first (first (first
-      (under (layout .count) 1 4)
-      (under 32 (layout .count) 4))
-      lengths)
-      (under 4096 (layout .size) 4))
-      (under (layout .base) 0x8000 4))
-      (under 0x10000 (layout .base + layout .size) 4))
-      (differ (length image) (layout .code + layout .size) 4)
-      ≡ layoutCheck image
-  unfolding layoutCheck layoutOf
-  layout-checked = rw (laid, listed) (simp (first-assoc, first-none))
