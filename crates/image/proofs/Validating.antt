@@ -26,7 +26,7 @@ three (a ∷ b ∷ c ∷ s) h = refl
 letters : (a b c : ℕ) (same : Bool) →
     (same ≡ true → a ∷ b ∷ c ∷ [] ≡ mark) → (a ∷ b ∷ c ∷ [] ≡ mark → same ≡ true) →
     unless same 2 ≡ firstIn (differ a 0x53 2 ∷ differ b 0x4C 2 ∷ differ c 0x55 2 ∷ [])
-unfolding unless differ first
+unfolding unless differ first firstIn
 letters a b c true f g =
     let e = f refl in
     let p : a ≡ 0x53 = cc in
@@ -47,7 +47,7 @@ letters a b c false f g = go (eqb a 0x53) (eqb b 0x4C) (eqb c 0x55) refl refl re
 
 pub mark-checked : (image : List ℕ) (same : Bool) → 8 ≤ length image →
     (same ≡ true → take 3 image ≡ mark) → (take 3 image ≡ mark → same ≡ true) → unless same 2 ≡ markCheck image
-unfolding markCheck
+unfolding markCheck firstIn
 mark-checked image same h f g =
     let e = three image (omega arith) in
     rw (under-pass (length image) 8 2 h, first-pass)

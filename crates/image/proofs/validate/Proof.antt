@@ -1,4 +1,5 @@
 -- `image::validate` meets its contract.
+use Rattle.numbers.specs.Folds.{firstIn}
 use Rattle.numbers.proofs.Folding.{first-assoc, first-none}
 use Rattle.image.specs.Image.{versionOf}
 use Rattle.image.specs.Validation.{validated, refusal, versionCheck}
@@ -7,7 +8,7 @@ use Rattle.image.proofs.validate.Statement.{statement}
 use Rattle.image.proofs.validate.Tie as tie
 
 returns : tie.Need-returns
-unfolding validated refusal versionCheck versionOf
+unfolding firstIn validated refusal versionCheck versionOf
 returns c =
     let c4 = c .before .before .before .before in
     let c8 = c4 .before .before .before .before in

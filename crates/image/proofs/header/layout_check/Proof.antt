@@ -1,4 +1,5 @@
 -- `image::header::layout_check` meets its contract.
+use Rattle.numbers.specs.Folds.{firstIn}
 use Rattle.numbers.proofs.Folding.{first-assoc, first-none}
 use Rattle.image.specs.Image.{layoutOf, baseOf, countOf, codeAt}
 use Rattle.image.specs.Validation.{layoutCheck}
@@ -7,7 +8,7 @@ use Rattle.image.proofs.header.layout_check.Statement.{statement}
 use Rattle.image.proofs.header.layout_check.Tie as tie
 
 returns : tie.Need-returns
-unfolding layoutCheck layoutOf baseOf countOf codeAt
+unfolding firstIn layoutCheck layoutOf baseOf countOf codeAt
 returns c =
     let c4 = c .before .before .before .before in
     let c8 = c4 .before .before .before .before in
