@@ -10,23 +10,12 @@ use Rattle.stm8.specs.declared.Register.{Register}
 use Rattle.stm8.specs.declared.Register.the-variants.{X, Y}
 use Rattle.stm8.specs.declared.Operand.{Operand}
 use Rattle.stm8.specs.declared.Operand.the-variants.{Accumulator, Immediate, ImmediateWord, Short, Long, Indexed, Sp}
-use Rattle.stm8.specs.declared.WordAluOp.{WordAluOp}
-use Rattle.stm8.specs.declared.WordAluOp.the-variants.{Addw, Cpw, Subw}
 use Rattle.stm8.specs.declared.Encoded.{Encoded}
 
 -- the pre-code that tells Y from X, 0 for none
 abbrev pub registerPrecode : Register → ℕ
 registerPrecode X = 0
 registerPrecode Y = 0x90
-
--- pre-code, 0 for none, and op-code as one word
-abbrev pub wordAluOpcode : WordAluOp → Register → ℕ
-wordAluOpcode Addw X = 0x1c
-wordAluOpcode Addw Y = 0x72a9
-wordAluOpcode Subw X = 0x1d
-wordAluOpcode Subw Y = 0x72a2
-wordAluOpcode Cpw X = 0xa3
-wordAluOpcode Cpw Y = 0x90a3
 
 -- pre-code and op-code; a pre-code 0 is none, and an op-code 0 no instruction
 abbrev pub opcodeBytes : ℕ → ℕ → List ℕ

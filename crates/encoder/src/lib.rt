@@ -5,8 +5,8 @@ ghost use mathlib.Core.Bool.{cond};
 ghost use Prim.Native.Nat.{_+_, _*_, _<_};
 ghost use lib.Dec.{leb};
 ghost use Rattle.numbers.specs.Words.{high as highOf, low as lowOf};
-ghost use Rattle.stm8.specs.Encoding.{aluColumn, modifyColumn, conditionColumn, aluSp, onRegister, indexedBytes, aluBytes, movBytes, loadHalfCode, storeHalfCode, loadWordSp, storeWordSp, wordModifyCode, bitPrecode, bitCode, testCode, flagCode, padded, encoded};
-ghost use Rattle.encoder.specs.Forms.{registerPrecode, wordAluOpcode, opcodeBytes, appended, appendedWord, operandForm};
+ghost use Rattle.stm8.specs.Encoding.{aluColumn, modifyColumn, conditionColumn, aluSp, onRegister, indexedBytes, aluBytes, movBytes, loadHalfCode, storeHalfCode, loadWordSp, storeWordSp, wordAluBytes, wordModifyCode, bitPrecode, bitCode, testCode, flagCode, padded, encoded};
+ghost use Rattle.encoder.specs.Forms.{registerPrecode, opcodeBytes, appended, appendedWord, operandForm};
 use numbers::words::high;
 use numbers::words::low;
 use stm8::AluOp;
@@ -200,26 +200,6 @@ fn precode(r: Register) -> u8
     }
 }
 
-// The pre-code, 0 for none, as the high byte, and the op-code.
-fn word_alu_opcode(o: WordAluOp, r: Register) -> u16
-    ensures { λ e. ⌜ e ≡ wordAluOpcode o r ⌝ }
-{
-    match o {
-        WordAluOp::Addw => match r {
-            Register::X => 0x1c,
-            Register::Y => 0x72a9,
-        },
-        WordAluOp::Subw => match r {
-            Register::X => 0x1d,
-            Register::Y => 0x72a2,
-        },
-        WordAluOp::Cpw => match r {
-            Register::X => 0xa3,
-            Register::Y => 0x90a3,
-        },
-    }
-}
-
 // No such instruction.
 const NONE: Encoded = Encoded {
     number: 18,
@@ -348,6 +328,22 @@ fn alu(o: AluOp, x: Operand) -> Encoded
     }
 }
 
+fn word_alu(o: WordAluOp, r: Register, w: u16) -> Encoded
+    ensures { λ e. ⌜ e ≡ padded (wordAluBytes o r w) ⌝ }
+{
+    match o {
+        WordAluOp::Addw => match r {
+            Register::X => append_word(one_byte(0x1c), w),
+            Register::Y => append_word(two_bytes(0x72, 0xa9), w),
+        },
+        WordAluOp::Subw => match r {
+            Register::X => append_word(one_byte(0x1d), w),
+            Register::Y => append_word(two_bytes(0x72, 0xa2), w),
+        },
+        WordAluOp::Cpw => append_word(on_register(r, 0xa3), w),
+    }
+}
+
 // The op-code and the address of a bit operation, at a bit position from 0 to 7.
 fn at_bit(precode: u8, code: u8, position: u8, w: u16) -> Encoded
     requires { ⌜ code < 32 ⌝ }
@@ -396,10 +392,7 @@ pub fn encode(i: Instruction) -> Encoded
             on_operand(x, precode(r), 0, 0, 0, 0, 0xcf, store_word_sp(r))
         }
         Instruction::CopyWord(r) => on_register(r, 0x93),
-        Instruction::WordAlu(o, r, w) => {
-            let codes = word_alu_opcode(o, r);
-            append_word(opcode(high(codes), low(codes)), w)
-        }
+        Instruction::WordAlu(o, r, w) => word_alu(o, r, w),
         Instruction::WordModify(o, r) => on_register(r, word_modify_code(o)),
         Instruction::Pushw(r) => on_register(r, 0x89),
         Instruction::Popw(r) => on_register(r, 0x85),

@@ -1,6 +1,5 @@
 -- `encoder::opcode` meets its contract.
 use borrow.Author.Tests.{ne-eqb}
-use borrow.Author.Needs.{needs}
 use Rattle.encoder.proofs.opcode.Statement.{statement}
 use Rattle.encoder.proofs.opcode.Tie as tie
 
@@ -8,8 +7,7 @@ pub opcode-spec : {M : Type 1} → statement M
 opcode-spec =
     tie.close
     (tie.spec
-    (λ c κs. search needs)
-    (λ c κs. search needs)
+    (λ c κs. tt) (λ c κs. tt)
     (λ c. rw (c .if1 .taken))
     (λ c. rw (c .one-byte .ensures, ne-eqb _ _ (c .before .before .if1 .left), c .before .if2 .taken))
     (λ c. rw (c .two-bytes .ensures, ne-eqb _ _ (c .before .before .if1 .left), ne-eqb _ _ (c .before .if2 .left))))
