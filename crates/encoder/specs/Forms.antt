@@ -21,9 +21,9 @@ registerPrecode Y = 0x90
 abbrev pub opcodeBytes : ℕ → ℕ → List ℕ
 opcodeBytes precode code = cond (eqb code 0) [] (cond (eqb precode 0) (code ∷ []) (precode ∷ code ∷ []))
 
--- one byte more
+-- one byte more; where there is no instruction, none
 abbrev pub appended : Encoded → ℕ → Encoded
-appended e byte = cond (eqb (e .length) 0) e (cond (ltb (e .length) 5) (record { number = 0; length = e .length + 1; bytes = set (e .bytes) (e .length) byte }) e)
+appended e byte = cond (eqb (e .length) 0) e (cond (ltb (e .length) 5) (record { number = e .number; length = e .length + 1; bytes = set (e .bytes) (e .length) byte }) e)
 
 abbrev pub appendedWord : Encoded → ℕ → Encoded
 appendedWord e w = appended (appended e (high w)) (low w)

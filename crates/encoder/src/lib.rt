@@ -217,14 +217,36 @@ fn one_byte(a: u8) -> Encoded
     }
 }
 
+// One byte more; where there is no instruction, none.
+fn append(e: Encoded, byte: u8) -> Encoded
+    ensures { λ r. ⌜ r ≡ appended e byte ⌝ }
+{
+    let length = e.length;
+    if length == 0 {
+        e
+    } else if length < 5 {
+        let mut bytes = e.bytes;
+        bytes[length] = byte;
+        Encoded {
+            number: e.number,
+            length: length + 1,
+            bytes,
+        }
+    } else {
+        e
+    }
+}
+
 fn two_bytes(a: u8, b: u8) -> Encoded
     ensures { λ r. ⌜ r ≡ padded (a ∷ b ∷ []) ⌝ }
 {
-    Encoded {
-        number: 0,
-        length: 2,
-        bytes: [a, b, 0, 0, 0],
-    }
+    append(one_byte(a), b)
+}
+
+fn append_word(e: Encoded, w: u16) -> Encoded
+    ensures { λ r. ⌜ r ≡ appendedWord e w ⌝ }
+{
+    append(append(e, high(w)), low(w))
 }
 
 // What an instruction begins with: its pre-code, 0 for none, and its op-code. An op-code 0 says that there is no such instruction.
@@ -238,32 +260,6 @@ fn opcode(precode: u8, code: u8) -> Encoded
     } else {
         two_bytes(precode, code)
     }
-}
-
-// One byte more; where there is no instruction, none.
-fn append(e: Encoded, byte: u8) -> Encoded
-    ensures { λ r. ⌜ r ≡ appended e byte ⌝ }
-{
-    let length = e.length;
-    if length == 0 {
-        return e;
-    }
-    if length < 5 {
-        let mut bytes = e.bytes;
-        bytes[length] = byte;
-        return Encoded {
-            number: 0,
-            length: length + 1,
-            bytes,
-        };
-    }
-    e
-}
-
-fn append_word(e: Encoded, w: u16) -> Encoded
-    ensures { λ r. ⌜ r ≡ appendedWord e w ⌝ }
-{
-    append(append(e, high(w)), low(w))
 }
 
 // An instruction whose op-code for Y is that for X after 90.

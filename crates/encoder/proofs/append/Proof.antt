@@ -8,6 +8,7 @@ pub append-spec : {M : Type 1} → statement M
 append-spec =
     tie.close
     (tie.spec
-    (λ c. rw (c .if1 .taken)) (λ c. search needs) (λ c. search needs)
+    (λ c. search needs) (λ c. search needs)
+    (λ c. rw (c .if1 .taken))
     (λ c. rw (ne-eqb _ _ (c .before .before .if1 .left), lt-ltb _ _ (c .before .if2 .taken)))
     (λ c. rw (ne-eqb _ _ (c .before .if1 .left), le-ltb _ _ (c .if2 .left))))
