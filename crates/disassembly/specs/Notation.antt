@@ -51,10 +51,8 @@ other X = ascii "Y"
 other Y = ascii "X"
 
 abbrev pub half : Register → Half → List ℕ
-half X Low = ascii "XL"
-half X High = ascii "XH"
-half Y Low = ascii "YL"
-half Y High = ascii "YH"
+half r Low = register r ++ ascii "L"
+half r High = register r ++ ascii "H"
 
 -- an offset in front of its register
 abbrev pub offset : Offset → List ℕ

@@ -1,14 +1,13 @@
 // The syntax of an instruction: its name and what stands after it.
 ghost use mathlib.Core.Path.{_≡_};
 ghost use Prim.Native.Nat.{_+_};
-ghost use lib.ListN.{length};
-ghost use Rattle.stm8.specs.Encoding.{bytesOf};
+ghost use mathlib.Core.Bool.{cond};
+ghost use lib.Dec.{leb};
 ghost use Rattle.disassembly.specs.Notation.{register, other as otherOf, extended as extendedOf, target as targetOf, text};
 ghost use Rattle.disassembly.specs.Writing.{spelled};
 use crate::Part;
 use crate::Syntax;
 use crate::names;
-use stm8::BitTest;
 use stm8::Instruction;
 use stm8::Operand;
 use stm8::Register;
@@ -68,13 +67,13 @@ fn other(r: Register) -> Register
 }
 
 // An offset as a word.
-fn extended(n: u8) -> u32
+fn extended(n: u8) -> u16
     ensures { λ r. ⌜ r ≡ extendedOf n ⌝ }
 {
     if n < 128 {
-        n as u32
+        n as u16
     } else {
-        0xff00 + (n as u32)
+        0xff00 + (n as u16)
     }
 }
 
@@ -82,13 +81,13 @@ fn extended(n: u8) -> u32
 fn target(address: u16, length: u8, n: u8) -> Part
     ensures { λ r. ⌜ r ≡ Part.Value (Operand.Long (targetOf (address + length) n)) ⌝ }
 {
-    let sum = (address as u32) + (length as u32) + extended(n);
+    let sum = (address as u32) + (length as u32) + (extended(n) as u32);
     Part::Value(Operand::Long((sum % 0x10000) as u16))
 }
 
 // The length of BTJT and BTJF; there is no such instruction with a bit position over 7.
 fn bit_jump_length(position: u8) -> u8
-    ensures { λ r. ⌜ r ≡ length (bytesOf (Instruction.BitJump BitTest.Btjt position 0 0)) ⌝ }
+    ensures { λ r. ⌜ r ≡ cond (leb position 7) 5 0 ⌝ }
 {
     if position <= 7 { 5 } else { 0 }
 }

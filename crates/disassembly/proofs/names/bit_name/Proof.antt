@@ -1,42 +1,17 @@
+-- `disassembly::names::bit_name` meets its contract.
 use borrow.Author.Needs.{needs}
 use Rattle.disassembly.proofs.names.bit_name.Statement.{statement}
 use Rattle.disassembly.proofs.names.bit_name.Tie as tie
-use Rattle.disassembly.proofs.names.bit_name.Reads as reads
-use Rattle.disassembly.proofs.names.bit_name.Lts as lts
-
--- src/names.rt:74:25
-enum-told : tie.Need-enum-told
-enum-told c = search needs
-
--- src/names.rt:75:25
-enum-told-2 : tie.Need-enum-told-2
-enum-told-2 c = search needs
-
--- src/names.rt:76:25
-enum-told-3 : tie.Need-enum-told-3
-enum-told-3 c = search needs
-
--- src/names.rt:77:25
-enum-told-4 : tie.Need-enum-told-4
-enum-told-4 c = search needs
-
--- src/names.rt:70:1
-returns : tie.Need-returns
-returns c = ?
-
--- src/names.rt:70:1
-returns-2 : tie.Need-returns-2
-returns-2 c = ?
-
--- src/names.rt:70:1
-returns-3 : tie.Need-returns-3
-returns-3 c = ?
-
--- src/names.rt:70:1
-returns-4 : tie.Need-returns-4
-returns-4 c = ?
 
 pub bit-name-spec : {M : Type 1} → statement M
 bit-name-spec =
     tie.close
-    (tie.spec enum-told enum-told-2 enum-told-3 enum-told-4 returns returns-2 returns-3 returns-4)
+    (tie.spec
+    (λ c. search needs)
+    (λ c. search needs)
+    (λ c. search needs)
+    (λ c. search needs)
+    (λ c. rw (c .before .before .enum-told .given .1))
+    (λ c. rw (c .before .before .enum-told2 .given .1))
+    (λ c. rw (c .before .before .enum-told3 .given .1))
+    (λ c. rw (c .before .before .enum-told4 .given .1)))
