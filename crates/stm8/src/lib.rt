@@ -1,8 +1,6 @@
 // The instructions of the gate set. The op-code map, the bytes of an instruction and its effect stand in specs/.
-mod effects;
 mod tables;
 
-pub use effects::effect_of;
 pub use tables::after_72_lengths;
 pub use tables::after_90_lengths;
 pub use tables::plain_lengths;

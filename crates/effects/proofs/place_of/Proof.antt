@@ -1,7 +1,7 @@
--- `stm8::effects::place_of` meets its contract.
+-- `effects::place_of` meets its contract.
 use borrow.Author.Needs.{needs}
-use Rattle.stm8.proofs.effects.place_of.Statement.{statement}
-use Rattle.stm8.proofs.effects.place_of.Tie as tie
+use Rattle.effects.proofs.place_of.Statement.{statement}
+use Rattle.effects.proofs.place_of.Tie as tie
 
 pub place-of-spec : {M : Type 1} → statement M
 place-of-spec =

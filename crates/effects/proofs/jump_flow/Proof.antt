@@ -1,7 +1,7 @@
--- `stm8::effects::jump_flow` meets its contract.
+-- `effects::jump_flow` meets its contract.
 use borrow.Author.Needs.{needs}
-use Rattle.stm8.proofs.effects.jump_flow.Statement.{statement}
-use Rattle.stm8.proofs.effects.jump_flow.Tie as tie
+use Rattle.effects.proofs.jump_flow.Statement.{statement}
+use Rattle.effects.proofs.jump_flow.Tie as tie
 
 pub jump-flow-spec : {M : Type 1} → statement M
 jump-flow-spec =

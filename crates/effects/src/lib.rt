@@ -1,14 +1,14 @@
-// The effect of an instruction: what it moves, apart from what it computes.
+// The effect of an instruction, which the check and the machine share.
 ghost use mathlib.Core.Path.{_≡_};
 ghost use Rattle.stm8.specs.Effects.{placeOf, writesBack, modifyPlace, fallsThrough, jumpFlow, moves as movesOf, goes as goesOf, calls as callsOf, effect};
-use crate::Condition;
-use crate::Effect;
-use crate::Flow;
-use crate::Instruction;
-use crate::ModifyOp;
-use crate::Operand;
-use crate::Place;
-use crate::Width;
+use stm8::Condition;
+use stm8::Effect;
+use stm8::Flow;
+use stm8::Instruction;
+use stm8::ModifyOp;
+use stm8::Operand;
+use stm8::Place;
+use stm8::Width;
 
 // Where a store to an operand goes.
 fn place_of(x: Operand, w: Width) -> Place

@@ -1,7 +1,7 @@
--- `stm8::effects::modify_place` meets its contract.
+-- `effects::modify_place` meets its contract.
 use borrow.Author.Needs.{needs}
-use Rattle.stm8.proofs.effects.modify_place.Statement.{statement}
-use Rattle.stm8.proofs.effects.modify_place.Tie as tie
+use Rattle.effects.proofs.modify_place.Statement.{statement}
+use Rattle.effects.proofs.modify_place.Tie as tie
 
 pub modify-place-spec : {M : Type 1} → statement M
 modify-place-spec =

@@ -1,7 +1,7 @@
--- `stm8::effects::effect_of` meets its contract.
+-- `effects::effect_of` meets its contract.
 use borrow.Author.Needs.{needs}
-use Rattle.stm8.proofs.effects.effect_of.Statement.{statement}
-use Rattle.stm8.proofs.effects.effect_of.Tie as tie
+use Rattle.effects.proofs.effect_of.Statement.{statement}
+use Rattle.effects.proofs.effect_of.Tie as tie
 
 pub effect-of-spec : {M : Type 1} → statement M
 effect-of-spec =

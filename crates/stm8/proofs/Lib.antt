@@ -1,0 +1,6 @@
+pub mod Lengths
+pub mod Columns
+pub mod Opening
+pub mod DecodeEncoded
+pub mod EncodeDecoded
+pub mod Longer
