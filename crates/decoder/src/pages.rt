@@ -98,6 +98,13 @@ fn after_90_entry(op: u8, size: usize, a: u8, b: u8) -> Decoded
     }
 }
 
+// The length that a table has for an op-code.
+fn length_of(op: u8, lengths: &[u8; 256]) -> usize
+    ensures { λ r. ⌜ r ≡ getD (now (lengths .entry)) op 0 ⌝ }
+{
+    lengths[op as usize] as usize
+}
+
 // The bytes on the page without pre-code, by its table of lengths.
 pub fn plain(bytes: &[u8], lengths: &[u8; 256]) -> Decoded
     ensures { λ r. ⌜ r ≡ decodedIn Plain (getD (now (lengths .entry)) (getD (now (bytes .entry)) 0 0) 0) (now (bytes .entry)) ⌝ }
@@ -105,8 +112,8 @@ pub fn plain(bytes: &[u8], lengths: &[u8; 256]) -> Decoded
     if bytes.len() == 0 {
         return Decoded::Truncated;
     }
-    let op = bytes[0];
-    let size = lengths[op as usize] as usize;
+    let op = byte_at(bytes, 0);
+    let size = length_of(op, lengths);
     if size == 0 {
         return Decoded::Outside;
     }
@@ -130,8 +137,8 @@ pub fn after_72(bytes: &[u8], lengths: &[u8; 256]) -> Decoded
     if bytes.len() <= 1 {
         return Decoded::Truncated;
     }
-    let op = bytes[1];
-    let size = lengths[op as usize] as usize;
+    let op = byte_at(bytes, 1);
+    let size = length_of(op, lengths);
     if size == 0 {
         return Decoded::Outside;
     }
@@ -154,8 +161,8 @@ pub fn after_90(bytes: &[u8], lengths: &[u8; 256]) -> Decoded
     if bytes.len() <= 1 {
         return Decoded::Truncated;
     }
-    let op = bytes[1];
-    let size = lengths[op as usize] as usize;
+    let op = byte_at(bytes, 1);
+    let size = length_of(op, lengths);
     if size == 0 {
         return Decoded::Outside;
     }

@@ -57,12 +57,13 @@ pub fn modify_row(op: u8, size: usize, x: Operand) -> Decoded
     }
 }
 
-// The op-code's lowest bit picks the operation, and the three above it are the bit position.
+// The column's lowest bit picks the operation, and the others are the bit position.
 pub fn bit_row(op: u8, size: usize, even: BitOp, odd: BitOp, address: u16) -> Decoded
     ensures { λ r. ⌜ r ≡ inRow (bitRow (λ n. Bit even n address) (λ n. Bit odd n address)) op size ⌝ }
 {
-    let position = op % 16 / 2;
-    if op % 2 == 0 {
+    let column = op % 16;
+    let position = column / 2;
+    if column % 2 == 0 {
         Decoded::Found(Instruction::Bit(even, position, address), size)
     } else {
         Decoded::Found(Instruction::Bit(odd, position, address), size)
@@ -72,8 +73,9 @@ pub fn bit_row(op: u8, size: usize, even: BitOp, odd: BitOp, address: u16) -> De
 pub fn bit_jump_row(op: u8, size: usize, address: u16, offset: u8) -> Decoded
     ensures { λ r. ⌜ r ≡ inRow (bitRow (λ n. BitJump Btjt n address offset) (λ n. BitJump Btjf n address offset)) op size ⌝ }
 {
-    let position = op % 16 / 2;
-    if op % 2 == 0 {
+    let column = op % 16;
+    let position = column / 2;
+    if column % 2 == 0 {
         Decoded::Found(
             Instruction::BitJump(BitTest::Btjt, position, address, offset),
             size,
