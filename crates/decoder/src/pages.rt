@@ -98,11 +98,17 @@ fn after_90_entry(op: u8, size: usize, a: u8, b: u8) -> Decoded
     }
 }
 
+fn wide(length: u8) -> usize
+    ensures { λ r. ⌜ r ≡ length ⌝ }
+{
+    length as usize
+}
+
 // The length that a table has for an op-code.
 fn length_of(op: u8, lengths: &[u8; 256]) -> usize
     ensures { λ r. ⌜ r ≡ getD (now (lengths .entry)) op 0 ⌝ }
 {
-    lengths[op as usize] as usize
+    wide(lengths[op as usize])
 }
 
 // The bytes on the page without pre-code, by its table of lengths.
