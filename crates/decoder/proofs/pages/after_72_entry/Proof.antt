@@ -1,0 +1,26 @@
+-- `decoder::pages::after_72_entry` meets its contract.
+use mathlib.Core.Path.{refl}
+use mathlib.Core.List.{[], _∷_}
+use Rattle.stm8.specs.OpcodeMap.{after72Page}
+use Rattle.decoder.proofs.Defaults.{other-rows}
+use borrow.Author.Needs.{needs}
+use Rattle.decoder.proofs.pages.after_72_entry.Statement.{statement}
+use Rattle.decoder.proofs.pages.after_72_entry.Tie as tie
+
+pub after-72-entry-spec : {M : Type 1} → statement M
+after-72-entry-spec =
+    tie.close
+    (tie.spec
+    (λ c κs. search needs)
+    (λ c κs. search needs)
+    (λ c κs. search needs)
+    (λ c κs. search needs)
+    (λ c κs. search needs)
+    (λ c κs. search needs)
+    (λ c κs. search needs)
+    (λ c κs. search needs)
+    (λ c. rw (c .bit-jump-row .ensures, c .before .word .ensures, c .before .before .match .keys1))
+    (λ c. rw (c .bit-row .ensures, c .before .word2 .ensures, c .before .before .match .keys2))
+    (λ c. rw (c .modify-row .ensures, c .before .word3 .ensures, c .before .before .match .keys3))
+    (λ c. rw (c .row-a-after-72 .ensures, c .before .word4 .ensures, c .before .before .match .keys4))
+    (λ c. let s = c .before .args in other-rows (10 ∷ 5 ∷ 1 ∷ 0 ∷ []) (after72Page (s .a) (s .b) (s .c)) refl (s .op) (s .size) (c .before .fits .op .fits) (c .match .rest)))

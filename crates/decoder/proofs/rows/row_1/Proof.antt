@@ -1,0 +1,22 @@
+-- `decoder::rows::row_1` meets its contract.
+use mathlib.Core.Path.{refl, _∙_}
+use mathlib.Core.List.{[], _∷_}
+use Rattle.stm8.specs.OpcodeMap.{indexedRow, row1}
+use Rattle.stm8.specs.declared.Operand.the-variants.{Sp}
+use Rattle.decoder.proofs.Defaults.{other-columns}
+use borrow.Author.Needs.{needs}
+use Rattle.decoder.proofs.rows.row_1.Statement.{statement}
+use Rattle.decoder.proofs.rows.row_1.Tie as tie
+
+pub row-1-spec : {M : Type 1} → statement M
+row-1-spec =
+    tie.close
+    (tie.spec
+    (λ c κs. search needs)
+    (λ c. rw (c .match .keys1))
+    (λ c. rw (c .match .keys2))
+    (λ c. rw (c .match .keys3))
+    (λ c. rw (c .match .keys4))
+    (λ c. rw (c .match .keys5))
+    (λ c. rw (c .match .keys6))
+    (λ c. let s = c .before .before .args in c .alu-row .ensures ∙ other-columns (15 ∷ 14 ∷ 13 ∷ 12 ∷ 7 ∷ 6 ∷ []) (row1 (s .a) (s .ab)) (indexedRow (Sp (s .a))) refl (s .op) (s .size) (c .before .match .rest)))

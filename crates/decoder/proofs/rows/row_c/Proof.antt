@@ -1,0 +1,20 @@
+-- `decoder::rows::row_c` meets its contract.
+use mathlib.Core.Path.{refl, _∙_}
+use mathlib.Core.List.{[], _∷_}
+use Rattle.stm8.specs.OpcodeMap.{indexedRow, rowC}
+use Rattle.stm8.specs.declared.Operand.the-variants.{Long}
+use Rattle.decoder.proofs.Defaults.{other-columns}
+use borrow.Author.Needs.{needs}
+use Rattle.decoder.proofs.rows.row_c.Statement.{statement}
+use Rattle.decoder.proofs.rows.row_c.Tie as tie
+
+pub row-c-spec : {M : Type 1} → statement M
+row-c-spec =
+    tie.close
+    (tie.spec
+    (λ c κs. search needs)
+    (λ c. rw (c .match .keys1))
+    (λ c. rw (c .match .keys2))
+    (λ c. rw (c .match .keys3))
+    (λ c. rw (c .match .keys4))
+    (λ c. let s = c .before .before .args in c .alu-row .ensures ∙ other-columns (15 ∷ 14 ∷ 13 ∷ 7 ∷ []) (rowC (s .ab)) (indexedRow (Long (s .ab))) refl (s .op) (s .size) (c .before .match .rest)))
