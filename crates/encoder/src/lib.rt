@@ -1,204 +1,38 @@
-// Encoding: the bytes of an instruction, or number 18. The op-codes are those of the definitions in stm8.
+// Encoding: the bytes of an instruction, or number 18.
 ghost use mathlib.Core.Path.{_≡_};
 ghost use mathlib.Core.List.{[], _∷_};
 ghost use mathlib.Core.Bool.{cond};
 ghost use Prim.Native.Nat.{_+_, _*_, _<_};
 ghost use lib.Dec.{leb};
 ghost use Rattle.numbers.specs.Words.{high as highOf, low as lowOf};
-ghost use Rattle.stm8.specs.Encoding.{aluColumn, modifyColumn, conditionColumn, aluSp, onRegister, indexedBytes, aluBytes, movBytes, loadHalfCode, storeHalfCode, loadWordSp, storeWordSp, wordAluBytes, wordModifyCode, bitPrecode, bitCode, testCode, flagCode, padded, encoded};
-ghost use Rattle.encoder.specs.Forms.{registerPrecode, opcodeBytes, appended, appendedWord, operandForm};
+ghost use Rattle.stm8.specs.Encoding.{onRegister, indexedBytes, aluBytes, movBytes, wordAluBytes, padded, encoded};
+ghost use Rattle.encoder.specs.Forms.{opcodeBytes, appended, appendedWord, operandForm};
+
+mod codes;
+
+use codes::alu_column;
+use codes::alu_sp;
+use codes::bit_code;
+use codes::bit_precode;
+use codes::condition_column;
+use codes::flag_code;
+use codes::load_half_code;
+use codes::load_word_sp;
+use codes::modify_column;
+use codes::precode;
+use codes::store_half_code;
+use codes::store_word_sp;
+use codes::test_code;
+use codes::word_modify_code;
 use numbers::words::high;
 use numbers::words::low;
 use stm8::AluOp;
-use stm8::BitOp;
-use stm8::BitTest;
-use stm8::Condition;
 use stm8::Encoded;
-use stm8::FlagOp;
-use stm8::Half;
 use stm8::Instruction;
-use stm8::ModifyOp;
 use stm8::Offset;
 use stm8::Operand;
 use stm8::Register;
 use stm8::WordAluOp;
-use stm8::WordModifyOp;
-
-// The low digits of op-codes, and op-codes that one name alone decides.
-
-fn alu_column(o: AluOp) -> u8
-    ensures { λ r. ⌜ (r ≡ aluColumn o) × (r < 16) ⌝ }
-{
-    match o {
-        AluOp::Sub => 0,
-        AluOp::Cp => 1,
-        AluOp::Sbc => 2,
-        AluOp::And => 4,
-        AluOp::Bcp => 5,
-        AluOp::Ld => 6,
-        AluOp::Xor => 8,
-        AluOp::Adc => 9,
-        AluOp::Or => 10,
-        AluOp::Add => 11,
-    }
-}
-
-fn alu_sp(o: AluOp) -> u8
-    ensures { λ r. ⌜ r ≡ aluSp o ⌝ }
-{
-    match o {
-        AluOp::Sub => 0x10,
-        AluOp::Cp => 0x11,
-        AluOp::Sbc => 0x12,
-        AluOp::And => 0x14,
-        AluOp::Bcp => 0x15,
-        AluOp::Ld => 0x7b,
-        AluOp::Xor => 0x18,
-        AluOp::Adc => 0x19,
-        AluOp::Or => 0x1a,
-        AluOp::Add => 0x1b,
-    }
-}
-
-fn modify_column(o: ModifyOp) -> u8
-    ensures { λ r. ⌜ (r ≡ modifyColumn o) × (r < 16) ⌝ }
-{
-    match o {
-        ModifyOp::Neg => 0,
-        ModifyOp::Cpl => 3,
-        ModifyOp::Srl => 4,
-        ModifyOp::Rrc => 6,
-        ModifyOp::Sra => 7,
-        ModifyOp::Sll => 8,
-        ModifyOp::Rlc => 9,
-        ModifyOp::Dec => 10,
-        ModifyOp::Inc => 12,
-        ModifyOp::Tnz => 13,
-        ModifyOp::Swap => 14,
-        ModifyOp::Clr => 15,
-    }
-}
-
-fn condition_column(o: Condition) -> u8
-    ensures { λ r. ⌜ (r ≡ conditionColumn o) × (r < 16) ⌝ }
-{
-    match o {
-        Condition::Jra => 0,
-        Condition::Jrf => 1,
-        Condition::Jrugt => 2,
-        Condition::Jrule => 3,
-        Condition::Jrnc => 4,
-        Condition::Jrc => 5,
-        Condition::Jrne => 6,
-        Condition::Jreq => 7,
-        Condition::Jrnv => 8,
-        Condition::Jrv => 9,
-        Condition::Jrpl => 10,
-        Condition::Jrmi => 11,
-        Condition::Jrsgt => 12,
-        Condition::Jrsle => 13,
-        Condition::Jrsge => 14,
-        Condition::Jrslt => 15,
-    }
-}
-
-fn load_half_code(h: Half) -> u8
-    ensures { λ r. ⌜ r ≡ loadHalfCode h ⌝ }
-{
-    match h {
-        Half::Low => 0x9f,
-        Half::High => 0x9e,
-    }
-}
-
-fn store_half_code(h: Half) -> u8
-    ensures { λ r. ⌜ r ≡ storeHalfCode h ⌝ }
-{
-    match h {
-        Half::Low => 0x97,
-        Half::High => 0x95,
-    }
-}
-
-fn load_word_sp(r: Register) -> u8
-    ensures { λ e. ⌜ e ≡ loadWordSp r ⌝ }
-{
-    match r {
-        Register::X => 0x1e,
-        Register::Y => 0x16,
-    }
-}
-
-fn store_word_sp(r: Register) -> u8
-    ensures { λ e. ⌜ e ≡ storeWordSp r ⌝ }
-{
-    match r {
-        Register::X => 0x1f,
-        Register::Y => 0x17,
-    }
-}
-
-fn word_modify_code(o: WordModifyOp) -> u8
-    ensures { λ r. ⌜ r ≡ wordModifyCode o ⌝ }
-{
-    match o {
-        WordModifyOp::Decw => 0x5a,
-        WordModifyOp::Incw => 0x5c,
-        WordModifyOp::Clrw => 0x5f,
-    }
-}
-
-fn bit_precode(o: BitOp) -> u8
-    ensures { λ r. ⌜ r ≡ bitPrecode o ⌝ }
-{
-    match o {
-        BitOp::Bset => 0x72,
-        BitOp::Bres => 0x72,
-        BitOp::Bcpl => 0x90,
-        BitOp::Bccm => 0x90,
-    }
-}
-
-fn bit_code(o: BitOp) -> u8
-    ensures { λ r. ⌜ (r ≡ bitCode o) × (r < 32) ⌝ }
-{
-    match o {
-        BitOp::Bset => 0x10,
-        BitOp::Bres => 0x11,
-        BitOp::Bcpl => 0x10,
-        BitOp::Bccm => 0x11,
-    }
-}
-
-fn test_code(o: BitTest) -> u8
-    ensures { λ r. ⌜ (r ≡ testCode o) × (r < 32) ⌝ }
-{
-    match o {
-        BitTest::Btjt => 0x00,
-        BitTest::Btjf => 0x01,
-    }
-}
-
-fn flag_code(o: FlagOp) -> u8
-    ensures { λ r. ⌜ r ≡ flagCode o ⌝ }
-{
-    match o {
-        FlagOp::Ccf => 0x8c,
-        FlagOp::Rcf => 0x98,
-        FlagOp::Scf => 0x99,
-        FlagOp::Rvf => 0x9c,
-    }
-}
-
-// The pre-code that tells Y from X, 0 for none.
-fn precode(r: Register) -> u8
-    ensures { λ e. ⌜ e ≡ registerPrecode r ⌝ }
-{
-    match r {
-        Register::X => 0,
-        Register::Y => 0x90,
-    }
-}
 
 // No such instruction.
 const NONE: Encoded = Encoded {
@@ -297,29 +131,29 @@ fn on_operand(
     }
 }
 
-// An operation on A with an indexed operand.
-fn indexed(column: u8, r: Register, f: Offset) -> Encoded
-    requires { ⌜ column < 16 ⌝ }
-    ensures { λ e. ⌜ e ≡ padded (onRegister r (indexedBytes column f)) ⌝ }
+// An operation on A with an indexed operand, by the low digit of its op-codes.
+fn indexed(digit: u8, r: Register, f: Offset) -> Encoded
+    requires { ⌜ digit < 16 ⌝ }
+    ensures { λ e. ⌜ e ≡ padded (onRegister r (indexedBytes digit f)) ⌝ }
 {
     match f {
-        Offset::Word(w) => append_word(on_register(r, 0xd0 + column), w),
-        Offset::Byte(n) => append(on_register(r, 0xe0 + column), n),
-        Offset::Zero => on_register(r, 0xf0 + column),
+        Offset::Word(w) => append_word(on_register(r, 0xd0 + digit), w),
+        Offset::Byte(n) => append(on_register(r, 0xe0 + digit), n),
+        Offset::Zero => on_register(r, 0xf0 + digit),
     }
 }
 
 fn alu(o: AluOp, x: Operand) -> Encoded
     ensures { λ r. ⌜ r ≡ padded (aluBytes o x) ⌝ }
 {
-    let column = alu_column(o);
+    let digit = alu_column(o);
     match x {
         Operand::Accumulator => NONE,
-        Operand::Immediate(n) => two_bytes(0xa0 + column, n),
+        Operand::Immediate(n) => two_bytes(0xa0 + digit, n),
         Operand::ImmediateWord(_) => NONE,
-        Operand::Short(n) => two_bytes(0xb0 + column, n),
-        Operand::Long(w) => append_word(one_byte(0xc0 + column), w),
-        Operand::Indexed(r, f) => indexed(column, r, f),
+        Operand::Short(n) => two_bytes(0xb0 + digit, n),
+        Operand::Long(w) => append_word(one_byte(0xc0 + digit), w),
+        Operand::Indexed(r, f) => indexed(digit, r, f),
         Operand::Sp(n) => two_bytes(alu_sp(o), n),
     }
 }

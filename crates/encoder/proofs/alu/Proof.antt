@@ -1,4 +1,4 @@
--- `encoder::alu` meets its contract.
+-- `encoder::alu` meets its contract. In each arm the variant is known: a line for what the arm's calls ask, then one for what it returns.
 use borrow.Author.Needs.{needs}
 use Rattle.encoder.proofs.alu.Statement.{statement}
 use Rattle.encoder.proofs.alu.Tie as tie

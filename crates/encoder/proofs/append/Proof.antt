@@ -1,4 +1,4 @@
--- `encoder::append` meets its contract.
+-- `encoder::append` meets its contract: the tests on the length that led to each return pick the case.
 use borrow.Author.Tests.{le-ltb, lt-ltb, ne-eqb}
 use borrow.Author.Needs.{needs}
 use Rattle.encoder.proofs.append.Statement.{statement}

@@ -1,4 +1,4 @@
--- `encoder::at_bit` meets its contract.
+-- `encoder::at_bit` meets its contract: the test says whether the bit position is in range.
 use borrow.Author.Tests.{le-leb, lt-leb}
 use borrow.Author.Needs.{needs}
 use Rattle.encoder.proofs.at_bit.Statement.{statement}

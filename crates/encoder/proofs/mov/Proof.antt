@@ -1,4 +1,4 @@
--- `encoder::mov` meets its contract.
+-- `encoder::mov` meets its contract. In each arm the variant is known: a line for what the arm's calls ask, then one for what it returns.
 use borrow.Author.Needs.{needs}
 use Rattle.encoder.proofs.Forms.{mov-long, mov-short}
 use Rattle.encoder.proofs.mov.Statement.{statement}

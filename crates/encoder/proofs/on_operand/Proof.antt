@@ -1,4 +1,4 @@
--- `encoder::on_operand` meets its contract.
+-- `encoder::on_operand` meets its contract. In each arm the variant is known: a line for what the arm's calls ask, then one for what it returns.
 use borrow.Author.Needs.{needs}
 use Rattle.encoder.proofs.on_operand.Statement.{statement}
 use Rattle.encoder.proofs.on_operand.Tie as tie

@@ -1,4 +1,4 @@
--- `encoder::on_register` meets its contract.
+-- `encoder::on_register` meets its contract, for either register.
 use borrow.Author.Needs.{needs}
 use Rattle.encoder.proofs.on_register.Statement.{statement}
 use Rattle.encoder.proofs.on_register.Tie as tie

@@ -1,4 +1,4 @@
--- `encoder::opcode` meets its contract.
+-- `encoder::opcode` meets its contract: the tests that led to each return pick the case.
 use borrow.Author.Tests.{ne-eqb}
 use Rattle.encoder.proofs.opcode.Statement.{statement}
 use Rattle.encoder.proofs.opcode.Tie as tie

@@ -1,4 +1,4 @@
--- `encoder::word_alu` meets its contract.
+-- `encoder::word_alu` meets its contract. In each arm the variant is known: a line for what the arm's calls ask, then one for what it returns.
 use borrow.Author.Needs.{needs}
 use Rattle.encoder.proofs.Forms.{on-register-word}
 use Rattle.encoder.proofs.word_alu.Statement.{statement}
