@@ -1,17 +1,19 @@
--- `decoder::decode_by` meets its contract.
+-- `decoder::decode_by` meets its contract: the first byte selects the page.
 use borrow.Author.Tests.{ne-eqb}
 use borrow.Author.Needs.{needs}
+use Rattle.stm8.specs.Decoding.{decodedBy}
 use Rattle.decoder.proofs.decode_by.Statement.{statement}
 use Rattle.decoder.proofs.decode_by.Tie as tie
 
 pub decode-by-spec : {M : Type 1} → statement M
+unfolding decodedBy
 decode-by-spec =
     tie.close
     (tie.spec
     (λ c κs. search needs)
     (λ c κs. search needs)
-    (λ c. rw (c .after-72 .ensures, c .before .before .byte-at .ensures, c .before .if1 .taken))
+    (λ c. rw (c .after-72 .ensures, ← c .before .before .byte-at .ensures, c .before .if1 .taken))
     (λ c κs. search needs)
-    (λ c. rw (c .after-90 .ensures, c .before .before .before .byte-at .ensures, ne-eqb _ _ (c .before .before .if1 .left), c .before .if2 .taken))
+    (λ c. rw (c .after-90 .ensures, ← c .before .before .before .byte-at .ensures, ne-eqb _ _ (c .before .before .if1 .left), c .before .if2 .taken))
     (λ c κs. search needs)
-    (λ c. rw (c .plain .ensures, c .before .before .before .byte-at .ensures, ne-eqb _ _ (c .before .before .if1 .left), ne-eqb _ _ (c .before .if2 .left))))
+    (λ c. rw (c .plain .ensures, ← c .before .before .before .byte-at .ensures, ne-eqb _ _ (c .before .before .if1 .left), ne-eqb _ _ (c .before .if2 .left), c .before .before .before .byte-at .ensures)))
