@@ -48,9 +48,10 @@ pub record Holds (t : Text) (s : List ℕ) : Type 0 where
 
 stored : (l s : List ℕ) → 0 + length s ≤ length l → Holds (record { letters = sets l 0 s; length = 0 + length s }) s
 stored l s h = record {
-    size = zero-add (length s);
-    room = rw (length-sets l 0 s) h;
-    start = rw (sets-eq s l 0 h) (take-at s (drop (0 + length s) l) (0 + length s) (sym (zero-add (length s)))) }
+  size = zero-add (length s);
+  room = rw (length-sets l 0 s) h;
+  start = rw (sets-eq s l 0 h) (take-at s (drop (0 + length s) l) (0 + length s) (sym (zero-add (length s))));
+}
 
 pub written-holds : (s : List ℕ) → length s ≤ 23 → Holds (wrote blank s) s
 written-holds s h =

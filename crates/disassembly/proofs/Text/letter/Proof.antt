@@ -1,5 +1,4 @@
 -- `disassembly::Text::letter` meets its contract.
-use borrow.Author.Tests.{eq-eqb, ne-eqb}
 use borrow.Author.Needs.{needs}
 use Rattle.disassembly.proofs.Text.letter.Statement.{statement}
 use Rattle.disassembly.proofs.Text.letter.Tie as tie
@@ -9,5 +8,5 @@ letter-spec =
     tie.close
     (tie.spec
     (λ c κs. search needs)
-    (λ c. rw (eq-eqb _ _ (c .if1 .taken)))
-    (λ c. rw (c .push .ensures, ne-eqb _ _ (c .before .if1 .left))))
+    (λ c κs. search needs)
+    (λ c. rw (c .push2 .ensures, c .before .push .ensures)))

@@ -7,9 +7,6 @@ pub register-spec : {M : Type 1} → statement M
 register-spec =
     tie.close
     (tie.spec
-    (λ c. search needs)
     (λ c κs. search needs)
-    (λ c. search needs)
     (λ c κs. search needs)
-    (λ c. rw (c .push .ensures, c .before .enum-told .given .1))
-    (λ c. rw (c .push2 .ensures, c .before .enum-told2 .given .1)))
+    (λ c. rw (c .push-register .ensures, c .before .push .ensures)))

@@ -1,9 +1,9 @@
--- `disassembly::forms::extended` meets its contract.
+-- `disassembly::instructions::extended` meets its contract.
 use borrow.Author.Tests.{le-ltb, lt-ltb}
 use borrow.Author.Needs.{needs}
 use Rattle.disassembly.specs.Notation.{extended}
-use Rattle.disassembly.proofs.forms.extended.Statement.{statement}
-use Rattle.disassembly.proofs.forms.extended.Tie as tie
+use Rattle.disassembly.proofs.instructions.extended.Statement.{statement}
+use Rattle.disassembly.proofs.instructions.extended.Tie as tie
 
 pub extended-spec : {M : Type 1} → statement M
 unfolding extended

@@ -1,7 +1,7 @@
--- `disassembly::forms::bit_jump_length` meets its contract.
+-- `disassembly::instructions::bit_jump_length` meets its contract.
 use borrow.Author.Tests.{le-leb, lt-leb}
-use Rattle.disassembly.proofs.forms.bit_jump_length.Statement.{statement}
-use Rattle.disassembly.proofs.forms.bit_jump_length.Tie as tie
+use Rattle.disassembly.proofs.instructions.bit_jump_length.Statement.{statement}
+use Rattle.disassembly.proofs.instructions.bit_jump_length.Tie as tie
 
 pub bit-jump-length-spec : {M : Type 1} → statement M
 bit-jump-length-spec =

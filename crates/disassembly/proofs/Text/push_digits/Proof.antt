@@ -1,10 +1,10 @@
--- `disassembly::Text::digits` meets its contract.
+-- `disassembly::Text::push_digits` meets its contract.
 use borrow.Author.Needs.{needs}
-use Rattle.disassembly.proofs.Text.digits.Statement.{statement}
-use Rattle.disassembly.proofs.Text.digits.Tie as tie
+use Rattle.disassembly.proofs.Text.push_digits.Statement.{statement}
+use Rattle.disassembly.proofs.Text.push_digits.Tie as tie
 
-pub digits-spec : {M : Type 1} → statement M
-digits-spec =
+pub push-digits-spec : {M : Type 1} → statement M
+push-digits-spec =
     tie.close
     (tie.spec
     (λ c κs. search needs)
