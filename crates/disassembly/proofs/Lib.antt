@@ -1,5 +1,3 @@
 pub mod Growing
-pub mod NameSizes
 pub mod Placing
-pub mod Sized
 pub mod Sizes

@@ -1,8 +1,11 @@
--- How long the text of an instruction is: never empty, and at most 23 bytes.
+-- How long texts are: never empty, and at most `longest` bytes.
 use Prim.Native.Nat.{ℕ, _+_, _≤_}
-use native.Mathlib.Omega.{arith}
+use mathlib.Core.Path.{_≡_, refl}
+use mathlib.Core.Bool.{Bool, true, false, cond}
 use mathlib.Core.List.{List, [], _∷_}
-use lib.Dec.{lit≤}
+use native.Mathlib.Nat.{le-refl}
+use native.Mathlib.Omega.{arith}
+use lib.Dec.{T, leb, lit≤}
 use lib.ListN.{length, length-append}
 use Rattle.numbers.specs.Ascii.{ascii}
 use Rattle.stm8.specs.Encoding.{bytesOf}
@@ -13,11 +16,113 @@ use Rattle.stm8.specs.declared.Half.the-variants.{Low, High}
 use Rattle.stm8.specs.declared.Offset.the-variants.{Zero, Byte, Word}
 use Rattle.stm8.specs.declared.Operand.{Operand}
 use Rattle.stm8.specs.declared.Operand.the-variants.{Accumulator, Immediate, ImmediateWord, Short, Long, Indexed, Sp}
+use Rattle.stm8.specs.declared.AluOp.{AluOp}
+use Rattle.stm8.specs.declared.AluOp.the-variants.{Adc, Add, And, Bcp, Cp, Ld, Or, Sbc, Sub, Xor}
+use Rattle.stm8.specs.declared.ModifyOp.{ModifyOp}
+use Rattle.stm8.specs.declared.ModifyOp.the-variants.{Clr, Cpl, Dec, Inc, Neg, Rlc, Rrc, Sll, Sra, Srl, Swap, Tnz}
+use Rattle.stm8.specs.declared.WordAluOp.{WordAluOp}
+use Rattle.stm8.specs.declared.WordAluOp.the-variants.{Addw, Cpw, Subw}
+use Rattle.stm8.specs.declared.WordModifyOp.{WordModifyOp}
+use Rattle.stm8.specs.declared.WordModifyOp.the-variants.{Clrw, Decw, Incw}
+use Rattle.stm8.specs.declared.BitOp.{BitOp}
+use Rattle.stm8.specs.declared.BitOp.the-variants.{Bccm, Bcpl, Bres, Bset}
+use Rattle.stm8.specs.declared.BitTest.{BitTest}
+use Rattle.stm8.specs.declared.BitTest.the-variants.{Btjf, Btjt}
+use Rattle.stm8.specs.declared.Condition.{Condition}
+use Rattle.stm8.specs.declared.Condition.the-variants.{Jra, Jrf, Jrugt, Jrule, Jrnc, Jrc, Jrne, Jreq, Jrnv, Jrv, Jrpl, Jrmi, Jrsgt, Jrsle, Jrsge, Jrslt}
+use Rattle.stm8.specs.declared.FlagOp.{FlagOp}
+use Rattle.stm8.specs.declared.FlagOp.the-variants.{Ccf, Rcf, Rvf, Scf}
 use Rattle.stm8.specs.declared.Instruction.{Instruction}
 use Rattle.stm8.specs.declared.Instruction.the-variants.{Alu, Store, LoadHalf, StoreHalf, Modify, LoadWord, StoreWord, CopyWord, WordAlu, WordModify, Pushw, Popw, Exgw, Mul, Bit, BitJump, Mov, Push, Pop, SubSp, AddSp, Jump, Call, Callr, Ret, Nop, Flag}
-use Rattle.disassembly.specs.Notation.{word, bitPosition, register, other, half, operand, line, target, textBefore, text}
-use Rattle.disassembly.proofs.NameSizes.{alu-size, modify-size, word-alu-size, word-modify-size, bit-size, test-size, condition-size, flag-size}
-use Rattle.disassembly.proofs.Sized.{Sized, within, exactly}
+use Rattle.disassembly.specs.Names.{aluName, modifyName, wordAluName, wordModifyName, bitName, testName, conditionName, flagName}
+use Rattle.disassembly.specs.Notation.{word, bitPosition, register, other, half, operand, line, target, textBefore, text, longest}
+
+pub length-cond : (t : Bool) (s : List ℕ) → length (cond t s []) ≡ cond t (length s) 0
+length-cond true s = refl
+length-cond false s = refl
+
+-- at least one element, and at most n
+pub record Sized (n : ℕ) (s : List ℕ) : Type 0 where
+  pub some : 1 ≤ length s
+  pub most : length s ≤ n
+
+-- where the length computes
+within : {n : ℕ} {s : List ℕ} → T (leb 1 (length s)) → T (leb (length s) n) → Sized n s
+within low high = record { some = lit≤ low; most = lit≤ high }
+
+exactly : (s : List ℕ) → T (leb 1 (length s)) → Sized (length s) s
+exactly s low = record { some = lit≤ low; most = le-refl (length s) }
+
+-- names have one to five letters
+alu-size : (o : AluOp) → Sized 5 (aluName o)
+alu-size Adc = within tt tt
+alu-size Add = within tt tt
+alu-size And = within tt tt
+alu-size Bcp = within tt tt
+alu-size Cp = within tt tt
+alu-size Ld = within tt tt
+alu-size Or = within tt tt
+alu-size Sbc = within tt tt
+alu-size Sub = within tt tt
+alu-size Xor = within tt tt
+
+modify-size : (o : ModifyOp) → Sized 5 (modifyName o)
+modify-size Clr = within tt tt
+modify-size Cpl = within tt tt
+modify-size Dec = within tt tt
+modify-size Inc = within tt tt
+modify-size Neg = within tt tt
+modify-size Rlc = within tt tt
+modify-size Rrc = within tt tt
+modify-size Sll = within tt tt
+modify-size Sra = within tt tt
+modify-size Srl = within tt tt
+modify-size Swap = within tt tt
+modify-size Tnz = within tt tt
+
+word-alu-size : (o : WordAluOp) → Sized 5 (wordAluName o)
+word-alu-size Addw = within tt tt
+word-alu-size Cpw = within tt tt
+word-alu-size Subw = within tt tt
+
+word-modify-size : (o : WordModifyOp) → Sized 5 (wordModifyName o)
+word-modify-size Clrw = within tt tt
+word-modify-size Decw = within tt tt
+word-modify-size Incw = within tt tt
+
+bit-size : (o : BitOp) → Sized 5 (bitName o)
+bit-size Bccm = within tt tt
+bit-size Bcpl = within tt tt
+bit-size Bres = within tt tt
+bit-size Bset = within tt tt
+
+test-size : (o : BitTest) → Sized 5 (testName o)
+test-size Btjf = within tt tt
+test-size Btjt = within tt tt
+
+condition-size : (o : Condition) → Sized 5 (conditionName o)
+condition-size Jra = within tt tt
+condition-size Jrf = within tt tt
+condition-size Jrugt = within tt tt
+condition-size Jrule = within tt tt
+condition-size Jrnc = within tt tt
+condition-size Jrc = within tt tt
+condition-size Jrne = within tt tt
+condition-size Jreq = within tt tt
+condition-size Jrnv = within tt tt
+condition-size Jrv = within tt tt
+condition-size Jrpl = within tt tt
+condition-size Jrmi = within tt tt
+condition-size Jrsgt = within tt tt
+condition-size Jrsle = within tt tt
+condition-size Jrsge = within tt tt
+condition-size Jrslt = within tt tt
+
+flag-size : (o : FlagOp) → Sized 5 (flagName o)
+flag-size Ccf = within tt tt
+flag-size Rcf = within tt tt
+flag-size Rvf = within tt tt
+flag-size Scf = within tt tt
 
 register-size : (r : Register) → Sized 1 (register r)
 register-size X = within tt tt
@@ -48,20 +153,20 @@ operand-size (Indexed Y (Word w)) = within tt tt
 operand-size (Sp n) = within tt tt
 
 -- lines with no operand, with one, two and three
-alone : {k : ℕ} {name : List ℕ} → Sized k name → k ≤ 23 → Sized 23 (line name [])
+alone : {k : ℕ} {name : List ℕ} → Sized k name → k ≤ longest → Sized longest (line name [])
 alone a h = record { some = simp length-append (omega arith); most = simp length-append (omega arith) }
 
 module _ {k l : ℕ} {name x : List ℕ} (a : Sized k name) (b : Sized l x) where
-  one : k + l ≤ 22 → Sized 23 (line name (x ∷ []))
+  one : k + l ≤ 22 → Sized longest (line name (x ∷ []))
   one h = record { some = simp length-append (omega arith); most = simp length-append (omega arith) }
 
-  two : {m : ℕ} {y : List ℕ} → Sized m y → k + l + m ≤ 21 → Sized 23 (line name (x ∷ y ∷ []))
+  two : {m : ℕ} {y : List ℕ} → Sized m y → k + l + m ≤ 21 → Sized longest (line name (x ∷ y ∷ []))
   two c h = record { some = simp length-append (omega arith); most = simp length-append (omega arith) }
 
-  three : {m n : ℕ} {y z : List ℕ} → Sized m y → Sized n z → k + l + m + n ≤ 20 → Sized 23 (line name (x ∷ y ∷ z ∷ []))
+  three : {m n : ℕ} {y z : List ℕ} → Sized m y → Sized n z → k + l + m + n ≤ 20 → Sized longest (line name (x ∷ y ∷ z ∷ []))
   three c d h = record { some = simp length-append (omega arith); most = simp length-append (omega arith) }
 
-sizes : (next : ℕ) (i : Instruction) → Sized 23 (textBefore next i)
+sizes : (next : ℕ) (i : Instruction) → Sized longest (textBefore next i)
 sizes next (Alu o x) = two (alu-size o) (exactly (ascii "A") tt) (operand-size x) (lit≤ tt)
 sizes next (Store x) = two (exactly (ascii "LD") tt) (operand-size x) (exactly (ascii "A") tt) (lit≤ tt)
 sizes next (LoadHalf r h) = two (exactly (ascii "LD") tt) (exactly (ascii "A") tt) (half-size r h) (lit≤ tt)
@@ -91,7 +196,11 @@ sizes next Ret = within tt tt
 sizes next Nop = within tt tt
 sizes next (Flag o) = alone (flag-size o) (lit≤ tt)
 
--- a text is never empty, and has at most 23 bytes
-pub text-size : (address : ℕ) (i : Instruction) → Sized 23 (text address i)
+-- a text is never empty, and none is longer than `longest`, which one of them is
+pub text-size : (address : ℕ) (i : Instruction) → Sized longest (text address i)
 unfolding text
 text-size address i = sizes (address + length (bytesOf i)) i
+
+pub longest-reached : length (text 0 (Mov (Indexed X (Word 0)) (Indexed X (Word 0)))) ≡ longest
+unfolding text
+longest-reached = refl

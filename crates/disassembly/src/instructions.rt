@@ -5,12 +5,11 @@ ghost use Prim.Native.Nat.{_+_};
 ghost use lib.Dec.{leb};
 ghost use Rattle.disassembly.specs.Notation.{extended as extendedOf, target as targetOf, text};
 ghost use Rattle.disassembly.specs.Writing.{blank, wrote};
-use crate::Text;
 use crate::names;
+use crate::writing::Text;
 use crate::writing::named;
 use stm8::Instruction;
 use stm8::Operand;
-use stm8::Register;
 
 // An offset as a word.
 fn extended(n: u8) -> u16
@@ -69,8 +68,12 @@ pub fn text_of(i: Instruction, address: u16) -> Text
         Instruction::Mov(to, from) => named(names::MOV).operand(b' ', to).operand(b',', from),
         Instruction::Push(x) => named(names::PUSH).operand(b' ', x),
         Instruction::Pop(x) => named(names::POP).operand(b' ', x),
-        Instruction::SubSp(n) => named(names::SUB).stack_change(n),
-        Instruction::AddSp(n) => named(names::ADDW).stack_change(n),
+        Instruction::SubSp(n) => named(names::SUB)
+            .stack_pointer(b' ')
+            .operand(b',', Operand::Immediate(n)),
+        Instruction::AddSp(n) => named(names::ADDW)
+            .stack_pointer(b' ')
+            .operand(b',', Operand::Immediate(n)),
         Instruction::Jump(o, n) => named(names::condition_name(o)).address(
             b' ',
             target(address, 2, n),

@@ -17,12 +17,6 @@ pub enum Written {
     TooShort,
 }
 
-// A text that is being written.
-pub struct Text {
-    pub letters: [u8; LONGEST],
-    pub length: usize,
-}
-
 // Writes the text of the instruction at an address to the start of the buffer.
 pub fn disassemble(i: Instruction, address: u16, buffer: &mut [u8]) -> Written
     ensures { λ r. ⌜ (r, now (buffer .exit)) ≡ placed (textOf address i) (now (buffer .entry)) ⌝ }

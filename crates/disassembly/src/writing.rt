@@ -1,16 +1,21 @@
 // A text that grows at its end. What stands after a name comes with the byte that separates it from what is there.
 ghost use mathlib.Core.Path.{_≡_};
-ghost use mathlib.Core.List.{[], _∷_, _++_};
+ghost use mathlib.Core.List.{[], _∷_};
 ghost use Rattle.numbers.specs.Ascii.{ascii};
 ghost use Rattle.disassembly.specs.Notation.{digit, byteDigits, byte as byteText, word as wordText, bitPosition, register as registerText, other as otherText, half as halfText, offset as offsetText, operand as operandText};
 ghost use Rattle.disassembly.specs.Writing.{trimmed, blank, pushed, wrote};
 use crate::LONGEST;
-use crate::Text;
 use numbers::words;
 use stm8::Half;
 use stm8::Offset;
 use stm8::Operand;
 use stm8::Register;
+
+// A text that is being written.
+pub struct Text {
+    pub letters: [u8; LONGEST],
+    pub length: usize,
+}
 
 // The last hexadecimal digit of a byte.
 pub fn hex_digit(n: u8) -> u8
@@ -143,14 +148,10 @@ impl Text {
         self.push(separator).push(b'#').push(hex_digit(n))
     }
 
-    // SP and the number that changes it.
-    pub fn stack_change(self, n: u8) -> Text
-        ensures { λ r. ⌜ r ≡ wrote self (ascii " SP,#" ++ byteText n) ⌝ }
+    pub fn stack_pointer(self, separator: u8) -> Text
+        ensures { λ r. ⌜ r ≡ wrote self (separator ∷ ascii "SP") ⌝ }
     {
-        self.letter(b' ', b'S')
-            .push(b'P')
-            .letter(b',', b'#')
-            .push_byte(n)
+        self.letter(separator, b'S').push(b'P')
     }
 
     pub fn operand(self, separator: u8, x: Operand) -> Text

@@ -1,8 +1,8 @@
--- `disassembly::instructions::text_of` meets its contract.
+-- `disassembly::instructions::text_of` meets its contract: what each arm writes, one after the other, is the line.
 use borrow.Author.Needs.{needs}
 use Rattle.disassembly.specs.Notation.{text}
 use Rattle.disassembly.proofs.Growing.{wrote-append}
-use Rattle.disassembly.proofs.Sized.{length-cond}
+use Rattle.disassembly.proofs.Sizes.{length-cond}
 use Rattle.disassembly.proofs.instructions.text_of.Statement.{statement}
 use Rattle.disassembly.proofs.instructions.text_of.Tie as tie
 
@@ -93,7 +93,9 @@ text-of-spec =
     (λ c. search needs)
     (λ c κs. search needs)
     (λ c κs. search needs)
+    (λ c κs. search needs)
     (λ c. search needs)
+    (λ c κs. search needs)
     (λ c κs. search needs)
     (λ c κs. search needs)
     (λ c. search needs)
@@ -134,8 +136,8 @@ text-of-spec =
     (λ c. rw (c .operand8 .ensures, c .before .operand7 .ensures, c .before .before .named17 .ensures, c .before .before .before .before .i16 .given .1, wrote-append, wrote-append, wrote-append))
     (λ c. rw (c .operand9 .ensures, c .before .named18 .ensures, c .before .before .before .i17 .given .1, wrote-append, wrote-append))
     (λ c. rw (c .operand10 .ensures, c .before .named19 .ensures, c .before .before .before .i18 .given .1, wrote-append, wrote-append))
-    (λ c. rw (c .stack-change .ensures, c .before .named20 .ensures, c .before .before .before .i19 .given .1, wrote-append, wrote-append, wrote-append))
-    (λ c. rw (c .stack-change2 .ensures, c .before .named21 .ensures, c .before .before .before .i20 .given .1, wrote-append, wrote-append, wrote-append))
+    (λ c. rw (c .operand11 .ensures, c .before .stack-pointer .ensures, c .before .before .named20 .ensures, c .before .before .before .before .i19 .given .1))
+    (λ c. rw (c .operand12 .ensures, c .before .stack-pointer2 .ensures, c .before .before .named21 .ensures, c .before .before .before .before .i20 .given .1))
     (λ c. rw (c .address4 .ensures, c .before .target2 .ensures, c .before .before .named22 .ensures, c .before .before .before .condition-name .ensures, c .before .before .before .before .before .i21 .given .1, wrote-append, wrote-append))
     (λ c. rw (c .address5 .ensures, c .before .named23 .ensures, c .before .before .before .i22 .given .1, wrote-append, wrote-append))
     (λ c. rw (c .address6 .ensures, c .before .target3 .ensures, c .before .before .named24 .ensures, c .before .before .before .before .i23 .given .1, wrote-append, wrote-append))
