@@ -10,8 +10,9 @@ use borrow.Author.Tests.{lt-ltb}
 use lib.Dec.{eqb}
 use lib.ListN.{length, replicate, getD, set, take, drop}
 use lib.Seq.{drop-cons, take-at, sets, length-sets, sets-eq}
+use Rattle.disassembly.specs.Notation.{longest}
 use Rattle.disassembly.specs.Writing.{trimmed, blank, pushed, wrote}
-use Rattle.disassembly.specs.declared.Text.{Text}
+use Rattle.disassembly.specs.declared.writing.Text.{Text}
 
 -- two lists of bytes, one after the other
 pub wrote-append : (t : Text) (a b : List ℕ) → wrote t (a ++ b) ≡ wrote (wrote t a) b
@@ -30,15 +31,15 @@ wrote-letter t u name i h e =
     rw (e, add-one, drop-cons name i 0 h) (sym (kept t b (trimmed (drop (suc i) name)) (eqb b 32)))
 
 -- a text of n letters, with room for a list
-grown : (l : List ℕ) (n : ℕ) (s : List ℕ) → n + length s ≤ 23 →
+grown : (l : List ℕ) (n : ℕ) (s : List ℕ) → n + length s ≤ longest →
     wrote (record { letters = l; length = n }) s ≡ record { letters = sets l n s; length = n + length s }
 unfolding pushed
 grown l n [] h = rw (add-zero n)
 grown l n (b ∷ s) h =
-    let room : n < 23 = omega arith in
-    let rest : n + 1 + length s ≤ 23 = omega arith in
+    let room : n < longest = omega arith in
+    let rest : n + 1 + length s ≤ longest = omega arith in
     let total : n + 1 + length s ≡ n + suc (length s) = omega arith in
-    rw (lt-ltb n 23 room, grown (set l n b) (n + 1) s rest, total, add-one)
+    rw (lt-ltb n longest room, grown (set l n b) (n + 1) s rest, total, add-one)
 
 -- a text holds a list: its letters, up to its length, are the list
 pub record Holds (t : Text) (s : List ℕ) : Type 0 where
@@ -48,11 +49,12 @@ pub record Holds (t : Text) (s : List ℕ) : Type 0 where
 
 stored : (l s : List ℕ) → 0 + length s ≤ length l → Holds (record { letters = sets l 0 s; length = 0 + length s }) s
 stored l s h = record {
-    size = zero-add (length s);
-    room = rw (length-sets l 0 s) h;
-    start = rw (sets-eq s l 0 h) (take-at s (drop (0 + length s) l) (0 + length s) (sym (zero-add (length s)))) }
+  size = zero-add (length s);
+  room = rw (length-sets l 0 s) h;
+  start = rw (sets-eq s l 0 h) (take-at s (drop (0 + length s) l) (0 + length s) (sym (zero-add (length s))));
+}
 
-pub written-holds : (s : List ℕ) → length s ≤ 23 → Holds (wrote blank s) s
+pub written-holds : (s : List ℕ) → length s ≤ longest → Holds (wrote blank s) s
 written-holds s h =
-    let fits : 0 + length s ≤ 23 = omega arith in
-    subst (λ t. Holds t s) (sym (grown (replicate 23 0) 0 s fits)) (stored (replicate 23 0) s fits)
+    let fits : 0 + length s ≤ longest = omega arith in
+    subst (λ t. Holds t s) (sym (grown (replicate longest 0) 0 s fits)) (stored (replicate longest 0) s fits)

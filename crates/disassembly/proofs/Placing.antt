@@ -2,10 +2,13 @@
 use Prim.Native.Nat.{ℕ, _≤_, _<_}
 use mathlib.Core.Path.{_≡_}
 use mathlib.Core.List.{List, _++_}
+use native.Mathlib.Nat.{le-trans}
 use borrow.Author.Tests.{lt-ltb, le-ltb}
 use lib.ListN.{length, take, drop}
 use lib.Seq.{take-length}
-use Rattle.disassembly.specs.Notation.{placed}
+use Rattle.disassembly.specs.Notation.{text, placed, longest}
+use Rattle.stm8.specs.declared.Instruction.{Instruction}
+use Rattle.disassembly.proofs.Sizes.{text-size}
 use Rattle.disassembly.specs.declared.Written.the-variants.{Bytes, TooShort}
 
 pub placed-short : (s buffer : List ℕ) → length buffer < length s → placed s buffer ≡ (TooShort, buffer)
@@ -15,6 +18,11 @@ placed-short s buffer h = rw (lt-ltb (length buffer) (length s) h)
 pub placed-fits : (s buffer : List ℕ) → length s ≤ length buffer → placed s buffer ≡ (Bytes (length s), s ++ drop (length s) buffer)
 unfolding placed
 placed-fits s buffer h = rw (le-ltb (length buffer) (length s) h)
+
+-- a buffer of `longest` bytes has room for any text
+pub text-placed : (address : ℕ) (i : Instruction) (buffer : List ℕ) → longest ≤ length buffer →
+    placed (text address i) buffer ≡ (Bytes (length (text address i)), text address i ++ drop (length (text address i)) buffer)
+text-placed address i buffer h = placed-fits (text address i) buffer (le-trans (text-size address i .most) h)
 
 -- a copy of the part of n bytes that is the text
 pub placed-copy : (s part buffer : List ℕ) (n : ℕ) → n ≡ length s → part ≡ s → n ≤ length buffer →

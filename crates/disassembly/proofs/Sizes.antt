@@ -1,10 +1,10 @@
--- How long texts are: at least one byte, and at most 23.
+-- How long texts are: never empty, and at most `longest` bytes.
 use Prim.Native.Nat.{ℕ, _+_, _≤_}
+use mathlib.Core.Path.{_≡_, refl}
+use mathlib.Core.Bool.{Bool, true, false, cond}
+use mathlib.Core.List.{List, [], _∷_}
 use native.Mathlib.Nat.{le-refl}
 use native.Mathlib.Omega.{arith}
-use mathlib.Core.Path.{_≡_, refl}
-use mathlib.Core.List.{List, [], _∷_}
-use mathlib.Core.Bool.{Bool, true, false, cond}
 use lib.Dec.{T, leb, lit≤}
 use lib.ListN.{length, length-append}
 use Rattle.numbers.specs.Ascii.{ascii}
@@ -35,23 +35,25 @@ use Rattle.stm8.specs.declared.FlagOp.the-variants.{Ccf, Rcf, Rvf, Scf}
 use Rattle.stm8.specs.declared.Instruction.{Instruction}
 use Rattle.stm8.specs.declared.Instruction.the-variants.{Alu, Store, LoadHalf, StoreHalf, Modify, LoadWord, StoreWord, CopyWord, WordAlu, WordModify, Pushw, Popw, Exgw, Mul, Bit, BitJump, Mov, Push, Pop, SubSp, AddSp, Jump, Call, Callr, Ret, Nop, Flag}
 use Rattle.disassembly.specs.Names.{aluName, modifyName, wordAluName, wordModifyName, bitName, testName, conditionName, flagName}
-use Rattle.disassembly.specs.Notation.{word, bitPosition, register, other, half, operand, line, target, textBefore, text}
+use Rattle.disassembly.specs.Notation.{word, bitPosition, register, other, half, operand, line, target, textBefore, text, longest}
 
 pub length-cond : (t : Bool) (s : List ℕ) → length (cond t s []) ≡ cond t (length s) 0
 length-cond true s = refl
 length-cond false s = refl
 
--- at least one byte, and at most n
+-- at least one element, and at most n
 pub record Sized (n : ℕ) (s : List ℕ) : Type 0 where
   pub some : 1 ≤ length s
   pub most : length s ≤ n
 
+-- where the length computes
 within : {n : ℕ} {s : List ℕ} → T (leb 1 (length s)) → T (leb (length s) n) → Sized n s
 within low high = record { some = lit≤ low; most = lit≤ high }
 
 exactly : (s : List ℕ) → T (leb 1 (length s)) → Sized (length s) s
 exactly s low = record { some = lit≤ low; most = le-refl (length s) }
 
+-- names have one to five letters
 alu-size : (o : AluOp) → Sized 5 (aluName o)
 alu-size Adc = within tt tt
 alu-size Add = within tt tt
@@ -151,20 +153,20 @@ operand-size (Indexed Y (Word w)) = within tt tt
 operand-size (Sp n) = within tt tt
 
 -- lines with no operand, with one, two and three
-alone : {k : ℕ} {name : List ℕ} → Sized k name → k ≤ 23 → Sized 23 (line name [])
+alone : {k : ℕ} {name : List ℕ} → Sized k name → k ≤ longest → Sized longest (line name [])
 alone a h = record { some = simp length-append (omega arith); most = simp length-append (omega arith) }
 
 module _ {k l : ℕ} {name x : List ℕ} (a : Sized k name) (b : Sized l x) where
-  one : k + l ≤ 22 → Sized 23 (line name (x ∷ []))
+  one : k + l ≤ 22 → Sized longest (line name (x ∷ []))
   one h = record { some = simp length-append (omega arith); most = simp length-append (omega arith) }
 
-  two : {m : ℕ} {y : List ℕ} → Sized m y → k + l + m ≤ 21 → Sized 23 (line name (x ∷ y ∷ []))
+  two : {m : ℕ} {y : List ℕ} → Sized m y → k + l + m ≤ 21 → Sized longest (line name (x ∷ y ∷ []))
   two c h = record { some = simp length-append (omega arith); most = simp length-append (omega arith) }
 
-  three : {m n : ℕ} {y z : List ℕ} → Sized m y → Sized n z → k + l + m + n ≤ 20 → Sized 23 (line name (x ∷ y ∷ z ∷ []))
+  three : {m n : ℕ} {y z : List ℕ} → Sized m y → Sized n z → k + l + m + n ≤ 20 → Sized longest (line name (x ∷ y ∷ z ∷ []))
   three c d h = record { some = simp length-append (omega arith); most = simp length-append (omega arith) }
 
-sizes : (next : ℕ) (i : Instruction) → Sized 23 (textBefore next i)
+sizes : (next : ℕ) (i : Instruction) → Sized longest (textBefore next i)
 sizes next (Alu o x) = two (alu-size o) (exactly (ascii "A") tt) (operand-size x) (lit≤ tt)
 sizes next (Store x) = two (exactly (ascii "LD") tt) (operand-size x) (exactly (ascii "A") tt) (lit≤ tt)
 sizes next (LoadHalf r h) = two (exactly (ascii "LD") tt) (exactly (ascii "A") tt) (half-size r h) (lit≤ tt)
@@ -194,7 +196,11 @@ sizes next Ret = within tt tt
 sizes next Nop = within tt tt
 sizes next (Flag o) = alone (flag-size o) (lit≤ tt)
 
--- a text is never empty, and has at most 23 bytes
-pub text-size : (address : ℕ) (i : Instruction) → Sized 23 (text address i)
+-- a text is never empty, and none is longer than `longest`, which one of them is
+pub text-size : (address : ℕ) (i : Instruction) → Sized longest (text address i)
 unfolding text
 text-size address i = sizes (address + length (bytesOf i)) i
+
+pub longest-reached : length (text 0 (Mov (Indexed X (Word 0)) (Indexed X (Word 0)))) ≡ longest
+unfolding text
+longest-reached = refl

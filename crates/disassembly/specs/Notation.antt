@@ -89,7 +89,7 @@ extended n = cond (ltb n 128) n (0xff00 + n)
 unfoldable pub target : ℕ → ℕ → ℕ
 target next n = (next + extended n) % 0x10000
 
--- the text of an instruction before the address `next`
+-- the text of an instruction that the address `next` follows. One outside the set, which document 01 leaves free, has its text by the same rules.
 abbrev pub textBefore : ℕ → Instruction → List ℕ
 textBefore next (Alu o x) = line (aluName o) (ascii "A" ∷ operand x ∷ [])
 textBefore next (Store x) = line (ascii "LD") (operand x ∷ ascii "A" ∷ [])
@@ -122,6 +122,10 @@ textBefore next (Flag o) = line (flagName o) []
 -- the text of an instruction at an address
 unfoldable pub text : ℕ → Instruction → List ℕ
 text address i = textBefore (address + length (bytesOf i)) i
+
+-- no text is longer: this is a theorem
+abbrev pub longest : ℕ
+longest = 23
 
 -- a text goes to the start of a buffer that has room for it; one that has not is refused, and stays as it was
 unfoldable pub placed : List ℕ → List ℕ → Written × List ℕ

@@ -1,17 +1,21 @@
-// A text that grows at its end.
+// A text that grows at its end. What stands after a name comes with the byte that separates it from what is there.
 ghost use mathlib.Core.Path.{_≡_};
 ghost use mathlib.Core.List.{[], _∷_};
-ghost use Rattle.disassembly.specs.Notation.{digit, byteDigits, byte as byteText, word as wordText, register as registerText, half as halfText, offset as offsetText, operand as operandText};
-ghost use Rattle.disassembly.specs.Writing.{trimmed, separated, spelled, blank, pushed, wrote};
+ghost use Rattle.numbers.specs.Ascii.{ascii};
+ghost use Rattle.disassembly.specs.Notation.{digit, byteDigits, byte as byteText, word as wordText, bitPosition, register as registerText, other as otherText, half as halfText, offset as offsetText, operand as operandText};
+ghost use Rattle.disassembly.specs.Writing.{trimmed, blank, pushed, wrote};
 use crate::LONGEST;
-use crate::Part;
-use crate::Syntax;
-use crate::Text;
 use numbers::words;
 use stm8::Half;
 use stm8::Offset;
 use stm8::Operand;
 use stm8::Register;
+
+// A text that is being written.
+pub struct Text {
+    pub letters: [u8; LONGEST],
+    pub length: usize,
+}
 
 // The last hexadecimal digit of a byte.
 pub fn hex_digit(n: u8) -> u8
@@ -21,13 +25,20 @@ pub fn hex_digit(n: u8) -> u8
     digits[(n % 16) as usize]
 }
 
-fn empty() -> Text
-    ensures { λ r. ⌜ r ≡ blank ⌝ }
+// A text that is a name, without the spaces that fill it up to five letters.
+pub fn named(name: [u8; 5]) -> Text
+    ensures { λ r. ⌜ r ≡ wrote blank (trimmed name) ⌝ }
 {
-    Text {
+    let mut t = Text {
         letters: [0u8; LONGEST],
         length: 0,
+    };
+    let mut i = 0;
+    while i < 5 {
+        t = t.push_letter(name[i]);
+        i += 1;
     }
+    t
 }
 
 impl Text {
@@ -47,45 +58,35 @@ impl Text {
         }
     }
 
-    // A letter of a name, which is no space.
-    fn letter(self, b: u8) -> Text
+    // A byte of a name, unless it is a space.
+    fn push_letter(self, b: u8) -> Text
         ensures { λ r. ⌜ r ≡ wrote self (trimmed (b ∷ [])) ⌝ }
     {
         if b == b' ' { self } else { self.push(b) }
     }
 
-    fn name(self, name: [u8; 5]) -> Text
-        ensures { λ r. ⌜ r ≡ wrote self (trimmed name) ⌝ }
-    {
-        let mut t = self;
-        let mut i = 0;
-        while i < 5 {
-            t = t.letter(name[i]);
-            i += 1;
-        }
-        t
-    }
-
-    fn digits(self, n: u8) -> Text
+    fn push_digits(self, n: u8) -> Text
         ensures { λ r. ⌜ r ≡ wrote self (byteDigits n) ⌝ }
     {
         self.push(hex_digit(n / 16)).push(hex_digit(n))
     }
 
-    fn byte(self, n: u8) -> Text
+    fn push_byte(self, n: u8) -> Text
         ensures { λ r. ⌜ r ≡ wrote self (byteText n) ⌝ }
     {
-        self.push(b'$').digits(n)
+        self.push(b'$').push_digits(n)
     }
 
-    fn word(self, w: u16) -> Text
+    fn push_word(self, w: u16) -> Text
         ensures { λ r. ⌜ r ≡ wrote self (wordText w) ⌝ }
     {
-        self.push(b'$').digits(words::high(w)).digits(words::low(w))
+        self.push(b'$')
+            .push_digits(words::high(w))
+            .push_digits(words::low(w))
     }
 
-    fn register(self, r: Register) -> Text
-        ensures { λ x. ⌜ x ≡ wrote self (registerText r) ⌝ }
+    fn push_register(self, r: Register) -> Text
+        ensures { λ t. ⌜ t ≡ wrote self (registerText r) ⌝ }
     {
         match r {
             Register::X => self.push(b'X'),
@@ -93,65 +94,83 @@ impl Text {
         }
     }
 
-    fn half(self, r: Register, h: Half) -> Text
-        ensures { λ x. ⌜ x ≡ wrote self (halfText r h) ⌝ }
-    {
-        match h {
-            Half::Low => self.register(r).push(b'L'),
-            Half::High => self.register(r).push(b'H'),
-        }
-    }
-
-    fn offset(self, f: Offset) -> Text
+    fn push_offset(self, f: Offset) -> Text
         ensures { λ r. ⌜ r ≡ wrote self (offsetText f) ⌝ }
     {
         match f {
             Offset::Zero => self,
-            Offset::Byte(n) => self.byte(n).push(b','),
-            Offset::Word(w) => self.word(w).push(b','),
+            Offset::Byte(n) => self.push_byte(n).push(b','),
+            Offset::Word(w) => self.push_word(w).push(b','),
         }
     }
 
-    fn operand(self, x: Operand) -> Text
-        ensures { λ r. ⌜ r ≡ wrote self (operandText x) ⌝ }
+    pub fn letter(self, separator: u8, b: u8) -> Text
+        ensures { λ r. ⌜ r ≡ wrote self (separator ∷ b ∷ []) ⌝ }
+    {
+        self.push(separator).push(b)
+    }
+
+    pub fn register(self, separator: u8, r: Register) -> Text
+        ensures { λ t. ⌜ t ≡ wrote self (separator ∷ registerText r) ⌝ }
+    {
+        self.push(separator).push_register(r)
+    }
+
+    // The index register that r is not.
+    pub fn other(self, separator: u8, r: Register) -> Text
+        ensures { λ t. ⌜ t ≡ wrote self (separator ∷ otherText r) ⌝ }
+    {
+        match r {
+            Register::X => self.letter(separator, b'Y'),
+            Register::Y => self.letter(separator, b'X'),
+        }
+    }
+
+    pub fn half(self, separator: u8, r: Register, h: Half) -> Text
+        ensures { λ t. ⌜ t ≡ wrote self (separator ∷ halfText r h) ⌝ }
+    {
+        match h {
+            Half::Low => self.register(separator, r).push(b'L'),
+            Half::High => self.register(separator, r).push(b'H'),
+        }
+    }
+
+    pub fn address(self, separator: u8, a: u16) -> Text
+        ensures { λ r. ⌜ r ≡ wrote self (separator ∷ wordText a) ⌝ }
+    {
+        self.push(separator).push_word(a)
+    }
+
+    // A bit position.
+    pub fn position(self, separator: u8, n: u8) -> Text
+        ensures { λ r. ⌜ r ≡ wrote self (separator ∷ bitPosition n) ⌝ }
+    {
+        self.push(separator).push(b'#').push(hex_digit(n))
+    }
+
+    pub fn stack_pointer(self, separator: u8) -> Text
+        ensures { λ r. ⌜ r ≡ wrote self (separator ∷ ascii "SP") ⌝ }
+    {
+        self.letter(separator, b'S').push(b'P')
+    }
+
+    pub fn operand(self, separator: u8, x: Operand) -> Text
+        ensures { λ r. ⌜ r ≡ wrote self (separator ∷ operandText x) ⌝ }
     {
         match x {
-            Operand::Accumulator => self.push(b'A'),
-            Operand::Immediate(n) => self.push(b'#').byte(n),
-            Operand::ImmediateWord(w) => self.push(b'#').word(w),
-            Operand::Short(a) => self.byte(a),
-            Operand::Long(a) => self.word(a),
-            Operand::Indexed(r, f) => self.push(b'(').offset(f).register(r).push(b')'),
-            Operand::Sp(n) => self.push(b'(').byte(n).push(b',').push(b'S').push(b'P').push(b')'),
+            Operand::Accumulator => self.letter(separator, b'A'),
+            Operand::Immediate(n) => self.letter(separator, b'#').push_byte(n),
+            Operand::ImmediateWord(w) => self.letter(separator, b'#').push_word(w),
+            Operand::Short(a) => self.push(separator).push_byte(a),
+            Operand::Long(a) => self.address(separator, a),
+            Operand::Indexed(r, f) => self.letter(separator, b'(')
+                .push_offset(f)
+                .push_register(r)
+                .push(b')'),
+            Operand::Sp(n) => self.letter(separator, b'(')
+                .push_byte(n)
+                .letter(b',', b'S')
+                .letter(b'P', b')'),
         }
     }
-
-    // A part, after the byte that separates it from what stands before it.
-    fn part(self, separator: u8, p: Part) -> Text
-        ensures { λ r. ⌜ r ≡ wrote self (separated separator p) ⌝ }
-    {
-        match p {
-            Part::Absent => self,
-            Part::Value(x) => self.push(separator).operand(x),
-            Part::Index(r) => self.push(separator).register(r),
-            Part::HalfOf(r, h) => self.push(separator).half(r, h),
-            Part::StackPointer => self.push(separator).push(b'S').push(b'P'),
-            Part::Position(n) => self.push(separator).push(b'#').push(hex_digit(n)),
-        }
-    }
-}
-
-// The text of an instruction's syntax.
-pub fn written(s: Syntax) -> Text
-    ensures { λ r. ⌜ r ≡ wrote blank (spelled s) ⌝ }
-{
-    let name = s.name;
-    let first = s.first;
-    let second = s.second;
-    let third = s.third;
-    empty()
-        .name(name)
-        .part(b' ', first)
-        .part(b',', second)
-        .part(b',', third)
 }

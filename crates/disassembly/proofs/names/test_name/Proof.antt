@@ -9,5 +9,5 @@ test-name-spec =
     (tie.spec
     (λ c. search needs)
     (λ c. search needs)
-    (λ c. rw (c .before .before .enum-told .given .1))
-    (λ c. rw (c .before .before .enum-told2 .given .1)))
+    (λ c. rw (c .enum-told .given .1))
+    (λ c. rw (c .enum-told2 .given .1)))

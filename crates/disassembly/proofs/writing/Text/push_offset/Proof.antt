@@ -1,0 +1,19 @@
+-- `disassembly::writing::Text::push_offset` meets its contract.
+use borrow.Author.Needs.{needs}
+use Rattle.disassembly.proofs.writing.Text.push_offset.Statement.{statement}
+use Rattle.disassembly.proofs.writing.Text.push_offset.Tie as tie
+
+pub push-offset-spec : {M : Type 1} → statement M
+push-offset-spec =
+    tie.close
+    (tie.spec
+    (λ c. search needs)
+    (λ c. search needs)
+    (λ c κs. search needs)
+    (λ c κs. search needs)
+    (λ c. search needs)
+    (λ c κs. search needs)
+    (λ c κs. search needs)
+    (λ c. search needs)
+    (λ c. rw (c .push .ensures, c .before .push-byte .ensures, c .before .before .before .f .given .1))
+    (λ c. rw (c .push2 .ensures, c .before .push-word .ensures, c .before .before .before .f2 .given .1)))
