@@ -3,12 +3,13 @@
 use disassembly::Written;
 use libc::STDOUT_FILENO;
 use numbers::words::byte_at;
+use std::num::wrapping_add_u64;
 use stm8::Decoded;
 use stm8::Instruction;
 
 const ADDRESS: u16 = 0x8000;
 
-// The bytes that a line gives, at most five.
+// The bytes that a line gives, at most five, 0 past the length.
 struct Code {
     bytes: [u8; 5],
     length: usize,
@@ -23,8 +24,8 @@ fn hex_digit(c: u8) -> u8 {
     if c < b'A' { c % 16 } else { (c % 16 + 9) % 16 }
 }
 
-fn hex_byte(text: &[u8], at: usize) -> u8 {
-    hex_digit(byte_at(text, at)) % 16 * 16 + hex_digit(byte_at(text, at + 1)) % 16
+fn hex_byte(high: u8, low: u8) -> u8 {
+    hex_digit(high) % 16 * 16 + hex_digit(low) % 16
 }
 
 fn code_of(hex: &[u8]) -> Code {
@@ -34,7 +35,7 @@ fn code_of(hex: &[u8]) -> Code {
     };
     for k in 0..5 {
         if 2 * k + 1 < hex.len() {
-            code.bytes[k] = hex_byte(hex, 2 * k);
+            code.bytes[k] = hex_byte(hex[2 * k], hex[2 * k + 1]);
             code.length = k + 1;
         }
     }
@@ -59,18 +60,21 @@ fn text_differs(i: Instruction, text: &[u8]) -> bool {
     n != text.len() || differ(&buffer, text, n)
 }
 
-fn bytes_differ(i: Instruction, code: &[u8]) -> bool {
+fn bytes_differ(i: Instruction, code: Code) -> bool {
     let encoded = encoder::encode(i);
-    let bytes = encoded.bytes;
-    encoded.number != 0 || encoded.length != code.len() || differ(&bytes, code, 5)
+    let made = encoded.bytes;
+    let given = code.bytes;
+    encoded.number != 0 || encoded.length != code.length || differ(&made, &given, 5)
 }
 
 // How many of the three, length, text and bytes, are not as a line says.
-fn differences(text: &[u8], code: &[u8]) -> u64 {
-    let Decoded::Found(i, n) = decoder::decode(code) else {
+fn differences(text: &[u8], code: Code) -> u64 {
+    let bytes = code.bytes;
+    let Decoded::Found(i, n) = decoder::decode(&bytes) else {
         return 3;
     };
-    (n != code.len()) as u64 + text_differs(i, text) as u64 + bytes_differ(i, code) as u64
+    let sizes = wrapping_add_u64((n != code.length) as u64, text_differs(i, text) as u64);
+    wrapping_add_u64(sizes, bytes_differ(i, code) as u64)
 }
 
 // The same of a line, without its end.
@@ -80,12 +84,7 @@ fn line_differences(line: &[u8]) -> u64 {
         return 3;
     }
     let code = code_of(&line[tab + 1..]);
-    let bytes = code.bytes;
-    let n = code.length;
-    if 5 < n {
-        return 3;
-    }
-    differences(&line[..tab], &bytes[..n])
+    differences(&line[..tab], code)
 }
 
 fn compare(file: &[u8]) -> Totals {
@@ -94,8 +93,8 @@ fn compare(file: &[u8]) -> Totals {
     let mut at = 0;
     while at < file.len() {
         let end = bytes::scan::find(file, at, file.len(), b'\n');
-        differences = std::num::wrapping_add_u64(differences, line_differences(&file[at..end]));
-        lines = std::num::wrapping_add_u64(lines, 1);
+        differences = wrapping_add_u64(differences, line_differences(&file[at..end]));
+        lines = wrapping_add_u64(lines, 1);
         at = end + 1;
     }
     Totals { lines, differences }
