@@ -13,7 +13,7 @@ use Rattle.stm8.specs.OpcodeMap.{Entry, Blank, Is, bitRow}
 use Rattle.stm8.specs.Decoding.{foundAs}
 use Rattle.stm8.specs.declared.Instruction.{Instruction}
 use Rattle.stm8.specs.declared.Decoded.the-variants.{Found, Outside}
-use Rattle.decoder.specs.Rows.{inRow}
+use Rattle.decoder.specs.Parts.{inRow, onPage}
 
 column-below : (op : ℕ) → op % 16 < 16
 column-below op = omega arith
@@ -22,6 +22,7 @@ column-below op = omega arith
 pub other-columns : (keys : List ℕ) (row other : List Entry) →
     map (λ k. cond (member k keys) (getD row k Blank) (getD other k Blank)) (counting 16 0) ≡ map (λ k. getD row k Blank) (counting 16 0) →
     (op size : ℕ) → NoneOf (op % 16) keys → inRow other op size ≡ inRow row op size
+unfolding inRow
 other-columns keys row other e op size none =
     ap (foundAs size) (rest 15 keys (λ k. getD other k Blank) (λ k. getD row k Blank) e (op % 16) (column-below op) none)
 
@@ -40,10 +41,13 @@ bit-column f g op =
 
 -- a row of blanks, and one into which an entry is put
 pub nothing : (op size : ℕ) → Outside ≡ inRow (replicate 16 Blank) op size
+unfolding inRow
 nothing op size = ap (foundAs size) (sym (getD-replicate 16 (op % 16) Blank Blank (column-below op)))
 
 pub put-here : (row : List Entry) → length row ≡ 16 → (op size k : ℕ) (i : Instruction) → op % 16 ≡ k → Found i size ≡ inRow (set row k (Is i)) op size
+unfolding inRow
 put-here row e op size k i at = rw (← at) (ap (foundAs size) (sym (getD-set-same row (op % 16) (Is i) Blank (rw (e) (column-below op)))))
 
 pub put-elsewhere : (row : List Entry) (op size k : ℕ) (i : Instruction) → (op % 16 ≡ k → ⊥) → inRow row op size ≡ inRow (set row k (Is i)) op size
+unfolding inRow
 put-elsewhere row op size k i other = ap (foundAs size) (sym (getD-set-other row k (op % 16) (Is i) Blank other))

@@ -1,8 +1,8 @@
 // The three op-code pages: the length is looked up in the page's table, and the row by the op-code's high digit.
 ghost use mathlib.Core.Path.{_≡_};
 ghost use lib.ListN.{getD};
-ghost use Rattle.stm8.specs.OpcodeMap.{Plain, After72, After90, entry};
-ghost use Rattle.stm8.specs.Decoding.{foundAs, decodedIn};
+ghost use Rattle.stm8.specs.OpcodeMap.{Plain, After72, After90};
+ghost use Rattle.decoder.specs.Parts.{onPage, byTable};
 use crate::rows::row_1;
 use crate::rows::row_2;
 use crate::rows::row_3;
@@ -34,7 +34,7 @@ use stm8::Register;
 use stm8::WordAluOp;
 
 fn plain_entry(op: u8, size: usize, a: u8, b: u8, c: u8, d: u8) -> Decoded
-    ensures { λ r. ⌜ r ≡ foundAs size (entry Plain op a b c d) ⌝ }
+    ensures { λ r. ⌜ r ≡ onPage Plain op size a b c d ⌝ }
 {
     let ab = word(a, b);
     let row = op / 16;
@@ -59,7 +59,7 @@ fn plain_entry(op: u8, size: usize, a: u8, b: u8, c: u8, d: u8) -> Decoded
 }
 
 fn after_72_entry(op: u8, size: usize, a: u8, b: u8, c: u8) -> Decoded
-    ensures { λ r. ⌜ r ≡ foundAs size (entry After72 op a b c 0) ⌝ }
+    ensures { λ r. ⌜ r ≡ onPage After72 op size a b c 0 ⌝ }
 {
     let ab = word(a, b);
     let row = op / 16;
@@ -80,7 +80,7 @@ fn after_72_entry(op: u8, size: usize, a: u8, b: u8, c: u8) -> Decoded
 }
 
 fn after_90_entry(op: u8, size: usize, a: u8, b: u8) -> Decoded
-    ensures { λ r. ⌜ r ≡ foundAs size (entry After90 op a b 0 0) ⌝ }
+    ensures { λ r. ⌜ r ≡ onPage After90 op size a b 0 0 ⌝ }
 {
     let ab = word(a, b);
     let row = op / 16;
@@ -128,7 +128,7 @@ fn length_of(op: u8, lengths: &[u8; 256]) -> usize
 
 // The bytes on the page without pre-code, by its table of lengths.
 pub fn plain(bytes: &[u8], lengths: &[u8; 256]) -> Decoded
-    ensures { λ r. ⌜ r ≡ decodedIn Plain (getD (now (lengths .entry)) (getD (now (bytes .entry)) 0 0) 0) (now (bytes .entry)) ⌝ }
+    ensures { λ r. ⌜ r ≡ byTable Plain (now (lengths .entry)) (now (bytes .entry)) ⌝ }
 {
     if bytes.len() == 0 {
         return Decoded::Truncated;
@@ -153,7 +153,7 @@ pub fn plain(bytes: &[u8], lengths: &[u8; 256]) -> Decoded
 
 // The same on the page after 72.
 pub fn after_72(bytes: &[u8], lengths: &[u8; 256]) -> Decoded
-    ensures { λ r. ⌜ r ≡ decodedIn After72 (getD (now (lengths .entry)) (getD (now (bytes .entry)) 1 0) 0) (now (bytes .entry)) ⌝ }
+    ensures { λ r. ⌜ r ≡ byTable After72 (now (lengths .entry)) (now (bytes .entry)) ⌝ }
 {
     if bytes.len() <= 1 {
         return Decoded::Truncated;
@@ -177,7 +177,7 @@ pub fn after_72(bytes: &[u8], lengths: &[u8; 256]) -> Decoded
 
 // The same on the page after 90.
 pub fn after_90(bytes: &[u8], lengths: &[u8; 256]) -> Decoded
-    ensures { λ r. ⌜ r ≡ decodedIn After90 (getD (now (lengths .entry)) (getD (now (bytes .entry)) 1 0) 0) (now (bytes .entry)) ⌝ }
+    ensures { λ r. ⌜ r ≡ byTable After90 (now (lengths .entry)) (now (bytes .entry)) ⌝ }
 {
     if bytes.len() <= 1 {
         return Decoded::Truncated;

@@ -2,7 +2,7 @@
 // the words that begin there.
 ghost use mathlib.Core.Path.{_≡_};
 ghost use Rattle.stm8.specs.OpcodeMap.{row1, row2, row3, row4, row5, row8, row9, rowA, rowB, rowC};
-ghost use Rattle.decoder.specs.Rows.{inRow};
+ghost use Rattle.decoder.specs.Parts.{inRow};
 use crate::shared::alu_row;
 use crate::shared::modify_row;
 use crate::shared::register_row_5;

@@ -3,7 +3,7 @@ ghost use mathlib.Core.Path.{_≡_};
 ghost use Rattle.stm8.specs.OpcodeMap.{Blank, one, two, indexedRow, modifyRow, bitRow, registerRow5, registerRow8, registerRow9};
 ghost use Rattle.stm8.specs.declared.Instruction.the-variants.{Bit, BitJump};
 ghost use Rattle.stm8.specs.declared.BitTest.the-variants.{Btjt, Btjf};
-ghost use Rattle.decoder.specs.Rows.{inRow};
+ghost use Rattle.decoder.specs.Parts.{inRow};
 use stm8::AluOp;
 use stm8::BitOp;
 use stm8::BitTest;

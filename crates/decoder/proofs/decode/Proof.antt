@@ -5,11 +5,12 @@ use borrow.Author.Needs.{needs}
 use Rattle.stm8.specs.OpcodeMap.{Plain, After72, After90}
 use Rattle.stm8.specs.Decoding.{decoded}
 use Rattle.stm8.proofs.Lengths.{in-page}
+use Rattle.decoder.specs.Parts.{byTable}
 use Rattle.decoder.proofs.decode.Statement.{statement}
 use Rattle.decoder.proofs.decode.Tie as tie
 
 pub decode-spec : {M : Type 1} → statement M
-unfolding decoded
+unfolding decoded byTable
 decode-spec =
     tie.close
     (tie.spec

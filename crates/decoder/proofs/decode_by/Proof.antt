@@ -2,11 +2,12 @@
 use borrow.Author.Tests.{ne-eqb}
 use borrow.Author.Needs.{needs}
 use Rattle.stm8.specs.Decoding.{decodedBy}
+use Rattle.decoder.specs.Parts.{byTable}
 use Rattle.decoder.proofs.decode_by.Statement.{statement}
 use Rattle.decoder.proofs.decode_by.Tie as tie
 
 pub decode-by-spec : {M : Type 1} → statement M
-unfolding decodedBy
+unfolding decodedBy byTable
 decode-by-spec =
     tie.close
     (tie.spec

@@ -4,11 +4,13 @@ use denote.Ref.{now}
 use borrow.Author.Tests.{le-leb}
 use borrow.Author.Needs.{needs}
 use Rattle.stm8.specs.OpcodeMap.{After72}
+use Rattle.decoder.specs.Parts.{onPage, byTable}
 use Rattle.decoder.proofs.Sizes.{outside, cut-short, whole}
 use Rattle.decoder.proofs.pages.after_72.Statement.{statement}
 use Rattle.decoder.proofs.pages.after_72.Tie as tie
 
 pub after-72-spec : {M : Type 1} → statement M
+unfolding onPage byTable
 after-72-spec =
     tie.close
     (tie.spec

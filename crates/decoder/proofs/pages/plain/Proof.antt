@@ -4,11 +4,13 @@ use denote.Ref.{now}
 use borrow.Author.Tests.{le-leb}
 use borrow.Author.Needs.{needs}
 use Rattle.stm8.specs.OpcodeMap.{Plain}
+use Rattle.decoder.specs.Parts.{onPage, byTable}
 use Rattle.decoder.proofs.Sizes.{outside, cut-short, whole}
 use Rattle.decoder.proofs.pages.plain.Statement.{statement}
 use Rattle.decoder.proofs.pages.plain.Tie as tie
 
 pub plain-spec : {M : Type 1} → statement M
+unfolding onPage byTable
 plain-spec =
     tie.close
     (tie.spec

@@ -2,12 +2,14 @@
 use mathlib.Core.Path.{refl}
 use mathlib.Core.List.{[], _∷_}
 use Rattle.stm8.specs.OpcodeMap.{plainPage}
+use Rattle.decoder.specs.Parts.{inRow, onPage}
 use Rattle.decoder.proofs.Defaults.{other-rows}
 use borrow.Author.Needs.{needs}
 use Rattle.decoder.proofs.pages.plain_entry.Statement.{statement}
 use Rattle.decoder.proofs.pages.plain_entry.Tie as tie
 
 pub plain-entry-spec : {M : Type 1} → statement M
+unfolding inRow onPage
 plain-entry-spec =
     tie.close
     (tie.spec

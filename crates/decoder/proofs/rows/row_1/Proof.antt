@@ -3,12 +3,14 @@ use mathlib.Core.Path.{refl, _∙_}
 use mathlib.Core.List.{[], _∷_}
 use Rattle.stm8.specs.OpcodeMap.{indexedRow, row1}
 use Rattle.stm8.specs.declared.Operand.the-variants.{Sp}
+use Rattle.decoder.specs.Parts.{inRow}
 use Rattle.decoder.proofs.Defaults.{other-columns}
 use borrow.Author.Needs.{needs}
 use Rattle.decoder.proofs.rows.row_1.Statement.{statement}
 use Rattle.decoder.proofs.rows.row_1.Tie as tie
 
 pub row-1-spec : {M : Type 1} → statement M
+unfolding inRow
 row-1-spec =
     tie.close
     (tie.spec

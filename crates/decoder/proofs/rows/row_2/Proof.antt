@@ -2,11 +2,13 @@
 use mathlib.Core.Path.{refl}
 use mathlib.Core.List.{[], _∷_}
 use Rattle.stm8.specs.OpcodeMap.{row2}
+use Rattle.decoder.specs.Parts.{inRow}
 use Rattle.decoder.proofs.Defaults.{other-columns}
 use Rattle.decoder.proofs.rows.row_2.Statement.{statement}
 use Rattle.decoder.proofs.rows.row_2.Tie as tie
 
 pub row-2-spec : {M : Type 1} → statement M
+unfolding inRow
 row-2-spec =
     tie.close
     (tie.spec

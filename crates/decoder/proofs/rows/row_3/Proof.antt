@@ -3,12 +3,14 @@ use mathlib.Core.Path.{refl, _∙_}
 use mathlib.Core.List.{[], _∷_}
 use Rattle.stm8.specs.OpcodeMap.{Blank, modifyRow, row3}
 use Rattle.stm8.specs.declared.Operand.the-variants.{Short}
+use Rattle.decoder.specs.Parts.{inRow}
 use Rattle.decoder.proofs.Defaults.{other-columns}
 use borrow.Author.Needs.{needs}
 use Rattle.decoder.proofs.rows.row_3.Statement.{statement}
 use Rattle.decoder.proofs.rows.row_3.Tie as tie
 
 pub row-3-spec : {M : Type 1} → statement M
+unfolding inRow
 row-3-spec =
     tie.close
     (tie.spec

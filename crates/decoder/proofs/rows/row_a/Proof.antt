@@ -3,12 +3,14 @@ use mathlib.Core.Path.{refl, _∙_}
 use mathlib.Core.List.{[], _∷_}
 use Rattle.stm8.specs.OpcodeMap.{indexedRow, rowA}
 use Rattle.stm8.specs.declared.Operand.the-variants.{Immediate}
+use Rattle.decoder.specs.Parts.{inRow}
 use Rattle.decoder.proofs.Defaults.{other-columns}
 use borrow.Author.Needs.{needs}
 use Rattle.decoder.proofs.rows.row_a.Statement.{statement}
 use Rattle.decoder.proofs.rows.row_a.Tie as tie
 
 pub row-a-spec : {M : Type 1} → statement M
+unfolding inRow
 row-a-spec =
     tie.close
     (tie.spec

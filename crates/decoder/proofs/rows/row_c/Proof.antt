@@ -3,12 +3,14 @@ use mathlib.Core.Path.{refl, _∙_}
 use mathlib.Core.List.{[], _∷_}
 use Rattle.stm8.specs.OpcodeMap.{indexedRow, rowC}
 use Rattle.stm8.specs.declared.Operand.the-variants.{Long}
+use Rattle.decoder.specs.Parts.{inRow}
 use Rattle.decoder.proofs.Defaults.{other-columns}
 use borrow.Author.Needs.{needs}
 use Rattle.decoder.proofs.rows.row_c.Statement.{statement}
 use Rattle.decoder.proofs.rows.row_c.Tie as tie
 
 pub row-c-spec : {M : Type 1} → statement M
+unfolding inRow
 row-c-spec =
     tie.close
     (tie.spec

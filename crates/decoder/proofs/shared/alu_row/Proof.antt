@@ -2,11 +2,13 @@
 use mathlib.Core.Path.{refl}
 use mathlib.Core.List.{[], _∷_}
 use Rattle.stm8.specs.OpcodeMap.{indexedRow}
+use Rattle.decoder.specs.Parts.{inRow}
 use Rattle.decoder.proofs.Defaults.{other-columns}
 use Rattle.decoder.proofs.shared.alu_row.Statement.{statement}
 use Rattle.decoder.proofs.shared.alu_row.Tie as tie
 
 pub alu-row-spec : {M : Type 1} → statement M
+unfolding inRow
 alu-row-spec =
     tie.close
     (tie.spec

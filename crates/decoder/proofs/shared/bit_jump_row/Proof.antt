@@ -1,12 +1,14 @@
 -- `decoder::shared::bit_jump_row` meets its contract.
 use Rattle.stm8.specs.declared.Instruction.the-variants.{BitJump}
 use Rattle.stm8.specs.declared.BitTest.the-variants.{Btjf, Btjt}
+use Rattle.decoder.specs.Parts.{inRow}
 use Rattle.decoder.proofs.Defaults.{bit-column}
 use borrow.Author.Tests.{ne-eqb}
 use Rattle.decoder.proofs.shared.bit_jump_row.Statement.{statement}
 use Rattle.decoder.proofs.shared.bit_jump_row.Tie as tie
 
 pub bit-jump-row-spec : {M : Type 1} → statement M
+unfolding inRow
 bit-jump-row-spec =
     tie.close
     (tie.spec

@@ -1,11 +1,13 @@
 -- `decoder::shared::bit_row` meets its contract.
 use Rattle.stm8.specs.declared.Instruction.the-variants.{Bit}
+use Rattle.decoder.specs.Parts.{inRow}
 use Rattle.decoder.proofs.Defaults.{bit-column}
 use borrow.Author.Tests.{ne-eqb}
 use Rattle.decoder.proofs.shared.bit_row.Statement.{statement}
 use Rattle.decoder.proofs.shared.bit_row.Tie as tie
 
 pub bit-row-spec : {M : Type 1} → statement M
+unfolding inRow
 bit-row-spec =
     tie.close
     (tie.spec

@@ -2,11 +2,13 @@
 use mathlib.Core.Path.{refl}
 use mathlib.Core.List.{[], _∷_}
 use Rattle.stm8.specs.OpcodeMap.{Blank, modifyRow}
+use Rattle.decoder.specs.Parts.{inRow}
 use Rattle.decoder.proofs.Defaults.{other-columns}
 use Rattle.decoder.proofs.shared.modify_row.Statement.{statement}
 use Rattle.decoder.proofs.shared.modify_row.Tie as tie
 
 pub modify-row-spec : {M : Type 1} → statement M
+unfolding inRow
 modify-row-spec =
     tie.close
     (tie.spec

@@ -2,11 +2,13 @@
 use mathlib.Core.Path.{refl, _∙_}
 use lib.ListN.{replicate}
 use Rattle.stm8.specs.OpcodeMap.{Blank}
+use Rattle.decoder.specs.Parts.{inRow}
 use Rattle.decoder.proofs.Defaults.{nothing, put-here, put-elsewhere}
 use Rattle.decoder.proofs.shared.one_entry.Statement.{statement}
 use Rattle.decoder.proofs.shared.one_entry.Tie as tie
 
 pub one-entry-spec : {M : Type 1} → statement M
+unfolding inRow
 one-entry-spec =
     tie.close
     (tie.spec

@@ -2,11 +2,13 @@
 use mathlib.Core.Path.{refl}
 use mathlib.Core.List.{[], _∷_}
 use Rattle.stm8.specs.OpcodeMap.{Blank, registerRow5}
+use Rattle.decoder.specs.Parts.{inRow}
 use Rattle.decoder.proofs.Defaults.{other-columns}
 use Rattle.decoder.proofs.shared.register_row_5.Statement.{statement}
 use Rattle.decoder.proofs.shared.register_row_5.Tie as tie
 
 pub register-row-5-spec : {M : Type 1} → statement M
+unfolding inRow
 register-row-5-spec =
     tie.close
     (tie.spec

@@ -2,11 +2,13 @@
 use mathlib.Core.Path.{refl}
 use mathlib.Core.List.{[], _∷_}
 use Rattle.stm8.specs.OpcodeMap.{Blank, registerRow8}
+use Rattle.decoder.specs.Parts.{inRow}
 use Rattle.decoder.proofs.Defaults.{other-columns}
 use Rattle.decoder.proofs.shared.register_row_8.Statement.{statement}
 use Rattle.decoder.proofs.shared.register_row_8.Tie as tie
 
 pub register-row-8-spec : {M : Type 1} → statement M
+unfolding inRow
 register-row-8-spec =
     tie.close
     (tie.spec

@@ -3,11 +3,13 @@ use mathlib.Core.Path.{_∙_}
 use lib.ListN.{replicate, length-set}
 use borrow.Author.Needs.{needs}
 use Rattle.stm8.specs.OpcodeMap.{Blank, Is, one}
+use Rattle.decoder.specs.Parts.{inRow}
 use Rattle.decoder.proofs.Defaults.{put-here, put-elsewhere}
 use Rattle.decoder.proofs.shared.two_entries.Statement.{statement}
 use Rattle.decoder.proofs.shared.two_entries.Tie as tie
 
 pub two-entries-spec : {M : Type 1} → statement M
+unfolding inRow
 two-entries-spec =
     tie.close
     (tie.spec
