@@ -21,6 +21,16 @@ counting-at zero i k d h = absurd (not-suc-le-zero h)
 counting-at (suc n) i zero d h = sym (add-zero i)
 counting-at (suc n) i (suc k) d h = counting-at n (suc i) k d (le-of-suc-le-suc h) ∙ suc-add i k ∙ sym (add-suc i k)
 
+-- a function's values at the n numbers from i on: how many, and the k-th of them
+pub mapped-length : {B : Type 0} (f : ℕ → B) (n i : ℕ) → length (map f (counting n i)) ≡ n
+mapped-length f zero i = refl
+mapped-length f (suc n) i = ap suc (mapped-length f n (suc i))
+
+pub mapped-at : {B : Type 0} (f : ℕ → B) (n i k : ℕ) (d : B) → k < n → getD (map f (counting n i)) k d ≡ f (i + k)
+mapped-at f zero i k d h = absurd (not-suc-le-zero h)
+mapped-at f (suc n) i zero d h = ap f (sym (add-zero i))
+mapped-at f (suc n) i (suc k) d h = mapped-at f n (suc i) k d (le-of-suc-le-suc h) ∙ ap f (suc-add i k ∙ sym (add-suc i k))
+
 -- at each number below a bound
 pub below : {B : Type 0} (n : ℕ) (f g : ℕ → B) → map f (counting (suc n) 0) ≡ map g (counting (suc n) 0) → (k : ℕ) → k < suc n → f k ≡ g k
 below n f g e k h = agree 0 (counting n 1) f g e k k (counting-at (suc n) 0 k 0 h ∙ zero-add k)

@@ -1,3 +1,4 @@
 pub mod Checking
 pub mod Computing
+pub mod Folding
 pub mod Wording

@@ -2,4 +2,5 @@ pub mod Ascii
 pub mod Bits
 pub mod Checks
 pub mod Computed
+pub mod Folds
 pub mod Words

@@ -1,0 +1,85 @@
+-- The length list of an image, and where its routines begin and end.
+use Prim.Native.Nat.{ℕ, _+_, _*_, _-_, _<_, _≤_}
+use mathlib.Core.Path.{_≡_, refl, sym, _∙_, ap}
+use mathlib.Core.List.{List, map}
+use native.Mathlib.Omega.{arith}
+use lib.ListN.{length, getD, drop, List·getD-eq-default, List·getD-map, length-map, take, length-drop}
+use lib.Seq.{take-all, getD-drop}
+use Rattle.numbers.specs.Computed.{counting}
+use Rattle.numbers.specs.Checks.{first, under}
+use Rattle.numbers.specs.Folds.{total, firstIn}
+use Rattle.numbers.specs.Words.{wordAt}
+use Rattle.numbers.proofs.Computing.{mapped-length, mapped-at}
+use Rattle.numbers.proofs.Folding.{total-more, total-front, total-rises, firstIn-more}
+use Rattle.image.specs.Image.{countOf, lengthsOf, lengthAt, sizeOf, startOf, endOf, codeAt, codeOf}
+use Rattle.image.specs.Validation.{lengthsCheck}
+
+module _ (image : List ℕ) where
+  pub lengths-count : length (lengthsOf image) ≡ countOf image
+  unfolding lengthsOf
+  lengths-count = mapped-length (λ k. wordAt image (8 + 2 * k)) (countOf image) 0
+
+  pub length-listed : (k : ℕ) → k < countOf image → lengthAt image k ≡ wordAt image (8 + 2 * k)
+  unfolding lengthsOf lengthAt
+  length-listed k h =
+      mapped-at (λ k. wordAt image (8 + 2 * k)) (countOf image) 0 k 0 h ∙
+      ap (λ n. wordAt image (8 + 2 * n)) (omega arith)
+
+  pub length-past : (k : ℕ) → countOf image ≤ k → lengthAt image k ≡ 0
+  unfolding lengthAt
+  length-past k h = List·getD-eq-default (lengthsOf image) 0 (omega (arith, lengths-count))
+
+  -- routine 0 begins at the first code byte, each other one where the one before it ends, and the last one ends with the code
+  pub start-zero : startOf image 0 ≡ 0
+  unfolding startOf
+  start-zero = refl
+
+  pub start-next : (k : ℕ) → k < countOf image → startOf image (k + 1) ≡ endOf image k
+  unfolding startOf endOf lengthAt
+  start-next k h = total-more (lengthsOf image) k 0 (omega (arith, lengths-count))
+
+  pub start-count : startOf image (countOf image) ≡ sizeOf image
+  unfolding startOf sizeOf
+  start-count = ap total (take-all (countOf image) (lengthsOf image) (omega (arith, lengths-count)))
+
+  -- routines lie inside the code, one after the other
+  pub start-inside : (k : ℕ) → startOf image k ≤ sizeOf image
+  unfolding startOf sizeOf
+  start-inside k = total-front k (lengthsOf image)
+
+  pub start-rises : (j k : ℕ) → j ≤ k → startOf image j ≤ startOf image k
+  unfolding startOf
+  start-rises j k = total-rises j k (lengthsOf image)
+
+  pub end-inside : (k : ℕ) → k < countOf image → endOf image k ≤ sizeOf image
+  end-inside k h = rw (start-next k h) at (start-inside (k + 1))
+
+  pub end-before : (j k : ℕ) → j < k → j < countOf image → endOf image j ≤ startOf image k
+  end-before j k h below = rw (start-next j below) at (start-rises (j + 1) k (omega arith))
+
+  -- the check of the lengths before k
+  pub lengthsBefore : ℕ → ℕ
+  lengthsBefore k = firstIn (take k (map (λ n. under n 1 4) (lengthsOf image)))
+
+  pub lengths-none : lengthsBefore 0 ≡ 0
+  unfolding lengthsBefore
+  lengths-none = refl
+
+  pub lengths-more : (k : ℕ) → k < countOf image → lengthsBefore (k + 1) ≡ first (lengthsBefore k) (under (lengthAt image k) 1 4)
+  unfolding lengthsBefore lengthAt
+  lengths-more k h =
+      firstIn-more (map (λ n. under n 1 4) (lengthsOf image)) k (under 0 1 4) (omega (arith, lengths-count, length-map (lengthsOf image) (λ n. under n 1 4))) ∙
+      ap (first (lengthsBefore k)) (List·getD-map (λ n. under n 1 4) (lengthsOf image) k 0)
+
+  pub lengths-all : lengthsBefore (countOf image) ≡ lengthsCheck image
+  unfolding lengthsBefore lengthsCheck
+  lengths-all = ap firstIn (take-all (countOf image) (map (λ n. under n 1 4) (lengthsOf image)) (omega (arith, lengths-count, length-map (lengthsOf image) (λ n. under n 1 4))))
+
+  -- a code byte, by its offset
+  pub code-byte : (offset : ℕ) → getD (codeOf image) offset 0 ≡ getD image (codeAt image + offset) 0
+  unfolding codeOf
+  code-byte offset = getD-drop (codeAt image) image offset 0
+
+  pub code-length : length (codeOf image) ≡ length image - codeAt image
+  unfolding codeOf
+  code-length = length-drop (codeAt image) image

@@ -1,0 +1,4 @@
+pub mod Image
+pub mod Access
+pub mod Validation
+pub mod Rules

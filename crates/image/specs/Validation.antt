@@ -1,0 +1,79 @@
+-- Validation: refusals 1 to 4 in document 01's order.
+use Prim.Native.Nat.{ℕ, _+_}
+use mathlib.Core.Bool.{cond}
+use mathlib.Core.List.{List, [], _∷_, map}
+use lib.Dec.{eqb, ltb}
+use lib.ListN.{length, getD}
+use Rattle.numbers.specs.Checks.{both, under, unless, differ}
+use Rattle.numbers.specs.Folds.{firstIn}
+use Rattle.image.specs.Image.{versionOf, baseOf, countOf, lengthsOf, codeAt, sizeOf, layoutOf}
+use Rattle.image.specs.declared.Area.{Area}
+use Rattle.image.specs.declared.Limits.{Limits}
+use Rattle.image.specs.declared.Validated.{Validated}
+use Rattle.image.specs.declared.Validated.the-variants.{Refused, Valid}
+
+-- 1, limits break a rule: low is not above high, all are at most 7FFF,
+unfoldable pub areaCheck : Area → ℕ
+areaCheck area =
+    firstIn
+    (under (area .high) (area .low) 1 ∷
+    under 0x7FFF (area .low) 1 ∷
+    under 0x7FFF (area .high) 1 ∷
+    [])
+
+-- the areas don't meet, so one ends before the other begins,
+unfoldable pub apartCheck : Area → Area → ℕ
+apartCheck a b = both (unless (ltb (a .high) (b .low)) 1) (unless (ltb (b .high) (a .low)) 1)
+
+-- stack low is at least 1
+unfoldable pub limitsCheck : Limits → ℕ
+limitsCheck limits =
+    firstIn
+    (areaCheck (limits .grant) ∷
+    areaCheck (limits .stack) ∷
+    under (limits .stack .low) 1 1 ∷
+    apartCheck (limits .grant) (limits .stack) ∷
+    [])
+
+-- 2, under 8 bytes, or not SLU (53 4C 55)
+unfoldable pub markCheck : List ℕ → ℕ
+markCheck image =
+    firstIn
+    (under (length image) 8 2 ∷
+    differ (getD image 0 0) 0x53 2 ∷
+    differ (getD image 1 0) 0x4C 2 ∷
+    differ (getD image 2 0) 0x55 2 ∷
+    [])
+
+-- 3, version not 0001
+unfoldable pub versionCheck : List ℕ → ℕ
+versionCheck image = differ (versionOf image) 0x0001 3
+
+-- 4, other layout rule: each length at least 1
+unfoldable pub lengthsCheck : List ℕ → ℕ
+lengthsCheck image = firstIn (map (λ n. under n 1 4) (lengthsOf image))
+
+-- count is 1 to 32, code at most 4,096 bytes, base at least 8000, base plus code at most 10000, and the file ends with the code
+unfoldable pub layoutCheck : List ℕ → ℕ
+layoutCheck image =
+    firstIn
+    (under (countOf image) 1 4 ∷
+    under 32 (countOf image) 4 ∷
+    lengthsCheck image ∷
+    under 4096 (sizeOf image) 4 ∷
+    under (baseOf image) 0x8000 4 ∷
+    under 0x10000 (baseOf image + sizeOf image) 4 ∷
+    differ (length image) (codeAt image + sizeOf image) 4 ∷
+    [])
+
+-- the number of the first rule that is broken, 0 where none is
+unfoldable pub refusal : List ℕ → Limits → ℕ
+refusal image limits = firstIn (limitsCheck limits ∷ markCheck image ∷ versionCheck image ∷ layoutCheck image ∷ [])
+
+unfoldable pub validated : List ℕ → Limits → Validated
+validated image limits = cond (eqb (refusal image limits) 0) (Valid (layoutOf image)) (Refused (refusal image limits))
+
+-- document 01's number of an answer, 0 where nothing is refused
+abbrev pub validationNumber : Validated → ℕ
+validationNumber (Refused number) = number
+validationNumber (Valid layout) = 0

@@ -1,0 +1,54 @@
+// The rules of limits: refusal 1.
+ghost use mathlib.Core.Path.{_≡_};
+ghost use Rattle.image.specs.Image.{limitsOf};
+ghost use Rattle.image.specs.Validation.{areaCheck, apartCheck, limitsCheck};
+use crate::Area;
+use crate::Limits;
+use numbers::checks::both;
+use numbers::checks::first;
+use numbers::checks::under;
+use numbers::checks::unless;
+use numbers::words::word_at;
+
+// The limits in the first eight bytes, high byte first; a byte past the end counts as 0.
+pub fn limits_of(bytes: &[u8]) -> Limits
+    ensures { λ r. ⌜ r ≡ limitsOf (now (bytes .entry)) ⌝ }
+{
+    let grant = Area {
+        low: word_at(bytes, 0),
+        high: word_at(bytes, 2),
+    };
+    let stack = Area {
+        low: word_at(bytes, 4),
+        high: word_at(bytes, 6),
+    };
+    Limits { grant, stack }
+}
+
+// 1 where an area's low is above its high, or one of them above 7FFF.
+fn area_check(area: Area) -> u8
+    ensures { λ r. ⌜ r ≡ areaCheck area ⌝ }
+{
+    let low = area.low as usize;
+    let high = area.high as usize;
+    let refusal = first(under(high, low, 1), under(0x7FFF, low, 1));
+    first(refusal, under(0x7FFF, high, 1))
+}
+
+// 1 unless one area ends before the other begins.
+fn apart_check(a: Area, b: Area) -> u8
+    ensures { λ r. ⌜ r ≡ apartCheck a b ⌝ }
+{
+    both(unless(a.high < b.low, 1), unless(b.high < a.low, 1))
+}
+
+// 1 where the limits break a rule.
+pub fn limits_check(limits: Limits) -> u8
+    ensures { λ r. ⌜ r ≡ limitsCheck limits ⌝ }
+{
+    let grant = limits.grant;
+    let stack = limits.stack;
+    let refusal = first(area_check(grant), area_check(stack));
+    let refusal = first(refusal, under(stack.low as usize, 1, 1));
+    first(refusal, apart_check(grant, stack))
+}

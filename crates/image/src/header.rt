@@ -1,0 +1,90 @@
+// The header of an image: its mark, its length list and the rules of its layout.
+ghost use mathlib.Core.Path.{_≡_};
+ghost use Prim.Native.Nat.{_≤_, _*_};
+ghost use Rattle.image.specs.Image.{lengthAt, sizeOf, layoutOf};
+ghost use Rattle.image.specs.Validation.{markCheck, lengthsCheck, layoutCheck};
+use crate::Layout;
+use numbers::checks::differ;
+use numbers::checks::first;
+use numbers::checks::under;
+use numbers::checks::unless;
+use numbers::words::byte_at;
+use numbers::words::word_at;
+
+// What the length list comes to: the sum of the lengths, and 4 where one of them is 0.
+pub struct Lengths {
+    pub total: usize,
+    pub refusal: u8,
+}
+
+// 2 where the image has under 8 bytes or does not begin with SLU.
+pub fn mark_check(image: &[u8]) -> u8
+    ensures { λ r. ⌜ r ≡ markCheck (now (image .entry)) ⌝ }
+{
+    if image.len() < 8 {
+        return 2;
+    }
+    unless(check::same(&image[..3], b"SLU"), 2)
+}
+
+// The length of routine k, 0 past the list. Nothing else reads the length list.
+pub fn routine_length(image: &[u8], k: usize) -> u16
+    ensures { λ r. ⌜ r ≡ lengthAt (now (image .entry)) k ⌝ }
+{
+    let count = byte_at(image, 7) as usize;
+    if k < count {
+        word_at(image, 8 + 2 * k)
+    } else {
+        0
+    }
+}
+
+pub fn lengths_of(image: &[u8]) -> Lengths
+    ensures { λ r. ⌜ r .total ≡ sizeOf (now (image .entry)) ⌝ }
+    ensures { λ r. ⌜ r .refusal ≡ lengthsCheck (now (image .entry)) ⌝ }
+    ensures { λ r. ⌜ r .total ≤ 65535 * 255 ⌝ }
+{
+    let count = byte_at(image, 7) as usize;
+    let mut total = 0;
+    let mut refusal = 0;
+    let mut k = 0;
+    while k < count {
+        let length = routine_length(image, k) as usize;
+        total += length;
+        refusal = first(refusal, under(length, 1, 4));
+        k += 1;
+    }
+    Lengths { total, refusal }
+}
+
+// The layout that the header says, given the sum of the lengths.
+pub fn layout_of(image: &[u8], size: usize) -> Layout
+    requires { ⌜ size ≡ sizeOf (now image) ⌝ }
+    ensures { λ r. ⌜ r ≡ layoutOf (now (image .entry)) ⌝ }
+{
+    let count = byte_at(image, 7) as usize;
+    Layout {
+        base: word_at(image, 5),
+        count,
+        code: 8 + 2 * count,
+        size,
+    }
+}
+
+// 4 where the layout breaks a rule, given what the lengths alone give.
+pub fn layout_check(image: &[u8], layout: Layout, lengths: u8) -> u8
+    requires { ⌜ (layout ≡ layoutOf (now image)) × (lengths ≡ lengthsCheck (now image)) ⌝ }
+    requires { ⌜ (layout .code ≤ 1000) × (layout .size ≤ 65535 * 255) ⌝ }
+    ensures { λ r. ⌜ r ≡ layoutCheck (now (image .entry)) ⌝ }
+{
+    let base = layout.base as usize;
+    let count = layout.count;
+    let size = layout.size;
+    let code = layout.code;
+    let refusal = first(under(count, 1, 4), under(32, count, 4));
+    let refusal = first(refusal, lengths);
+    let refusal = first(refusal, under(4096, size, 4));
+    let refusal = first(refusal, under(base, 0x8000, 4));
+    let refusal = first(refusal, under(0x10000, base + size, 4));
+    first(refusal, differ(image.len(), code + size, 4))
+}

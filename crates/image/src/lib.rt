@@ -1,0 +1,56 @@
+// SLU images and limits: refusals 1 to 4, and the layout of an image that is not refused.
+mod access;
+mod areas;
+mod header;
+
+pub use access::granted;
+pub use areas::limits_of;
+pub use header::routine_length;
+ghost use mathlib.Core.Path.{_≡_};
+ghost use Rattle.image.specs.Validation.{validated};
+use numbers::checks::differ;
+use numbers::checks::first;
+use numbers::words::word_at;
+
+// Addresses from low to high, both included.
+pub struct Area {
+    pub low: u16,
+    pub high: u16,
+}
+
+pub struct Limits {
+    pub grant: Area,
+    pub stack: Area,
+}
+
+// The base address, the number of routines, the index of the first code byte in the image, and the number of code bytes.
+pub struct Layout {
+    pub base: u16,
+    pub count: usize,
+    pub code: usize,
+    pub size: usize,
+}
+
+pub enum Validated {
+    Refused(u8),
+    Valid(Layout),
+}
+
+// The first refusal, in document 01's order, or the layout.
+pub fn validate(image: &[u8], limits: Limits) -> Validated
+    ensures { λ r. ⌜ r ≡ validated (now (image .entry)) limits ⌝ }
+{
+    let limits_refusal = areas::limits_check(limits);
+    let mark_refusal = header::mark_check(image);
+    let version_refusal = differ(word_at(image, 3) as usize, 1, 3);
+    let lengths = header::lengths_of(image);
+    let layout = header::layout_of(image, lengths.total);
+    let layout_refusal = header::layout_check(image, layout, lengths.refusal);
+    let refusal = first(first(limits_refusal, mark_refusal), version_refusal);
+    let refusal = first(refusal, layout_refusal);
+    if refusal == 0 {
+        Validated::Valid(layout)
+    } else {
+        Validated::Refused(refusal)
+    }
+}
