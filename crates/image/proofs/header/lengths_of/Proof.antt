@@ -27,10 +27,12 @@ loop-again c =
     let c2 = c .before .before in
     let c4 = c2 .before .before in
     let image = now (c4 .before .before .before .args .image) in
-    let below = rw (c4 .before .byte-at .ensures) at (c2 .before .loop-test .taken) in
-    (omega arith, omega arith,
-    rw (c4 .loop .inv .2, c2 .routine-length .ensures) (sym (start-next image (c4 .loop .k) below)),
-    rw (c .first .ensures, c .before .under .ensures, c2 .routine-length .ensures, c4 .loop .inv .3) (sym (lengths-more image (c4 .loop .k) below)))
+    let below = rw (c4 .before .byte-at .ensures) at (c2 .before .loop-test .taken) in (
+      omega arith,
+      omega arith,
+      rw (c4 .loop .inv .2, c2 .routine-length .ensures) (sym (start-next image (c4 .loop .k) below)),
+      rw (c .first .ensures, c .before .under .ensures, c2 .routine-length .ensures, c4 .loop .inv .3) (sym (lengths-more image (c4 .loop .k) below)),
+    )
 
 returns : tie.Need-returns Inv-loop μ-loop
 unfolding countOf
