@@ -1,2 +1,3 @@
 pub mod Measuring
 pub mod Validating
+pub mod Validity

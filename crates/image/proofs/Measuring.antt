@@ -31,7 +31,7 @@ module _ (image : List ℕ) where
 
   -- routine 0 begins at the first code byte, each other one where the one before it ends, and the last one ends with the code
   pub start-zero : startOf image 0 ≡ 0
-  unfolding startOf
+  unfolding startOf total
   start-zero = refl
 
   pub start-next : (k : ℕ) → k < countOf image → startOf image (k + 1) ≡ endOf image k
@@ -62,7 +62,7 @@ module _ (image : List ℕ) where
   lengthsBefore k = firstIn (take k (map (λ n. under n 1 4) (lengthsOf image)))
 
   pub lengths-none : lengthsBefore 0 ≡ 0
-  unfolding lengthsBefore
+  unfolding lengthsBefore firstIn
   lengths-none = refl
 
   pub lengths-more : (k : ℕ) → k < countOf image → lengthsBefore (k + 1) ≡ first (lengthsBefore k) (under (lengthAt image k) 1 4)

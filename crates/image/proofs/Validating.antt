@@ -26,7 +26,7 @@ three (a ∷ b ∷ c ∷ s) h = refl
 letters : (a b c : ℕ) (same : Bool) →
     (same ≡ true → a ∷ b ∷ c ∷ [] ≡ mark) → (a ∷ b ∷ c ∷ [] ≡ mark → same ≡ true) →
     unless same 2 ≡ firstIn (differ a 0x53 2 ∷ differ b 0x4C 2 ∷ differ c 0x55 2 ∷ [])
-unfolding unless differ first
+unfolding unless differ first firstIn
 letters a b c true f g =
     let e = f refl in
     let p : a ≡ 0x53 = cc in
@@ -47,22 +47,8 @@ letters a b c false f g = go (eqb a 0x53) (eqb b 0x4C) (eqb c 0x55) refl refl re
 
 pub mark-checked : (image : List ℕ) (same : Bool) → 8 ≤ length image →
     (same ≡ true → take 3 image ≡ mark) → (take 3 image ≡ mark → same ≡ true) → unless same 2 ≡ markCheck image
-unfolding markCheck
+unfolding markCheck firstIn
 mark-checked image same h f g =
     let e = three image (omega arith) in
     rw (under-pass (length image) 8 2 h, first-pass)
     (letters (getD image 0 0) (getD image 1 0) (getD image 2 0) same (λ t. sym e ∙ f t) (λ t. g (e ∙ t)))
-
-module _ (image : List ℕ) (layout : Layout) (lengths : ℕ) (laid : layout ≡ layoutOf image) (listed : lengths ≡ lengthsCheck image) where
-  pub layout-checked :
-      first (first (first (first (first (first
-      (under (layout .count) 1 4)
-      (under 32 (layout .count) 4))
-      lengths)
-      (under 4096 (layout .size) 4))
-      (under (layout .base) 0x8000 4))
-      (under 0x10000 (layout .base + layout .size) 4))
-      (differ (length image) (layout .code + layout .size) 4)
-      ≡ layoutCheck image
-  unfolding layoutCheck layoutOf
-  layout-checked = rw (laid, listed) (simp (first-assoc, first-none))

@@ -9,6 +9,7 @@ use Rattle.numbers.specs.Folds.{firstIn}
 use Rattle.image.specs.Image.{versionOf, baseOf, countOf, lengthsOf, codeAt, sizeOf, layoutOf}
 use Rattle.image.specs.declared.Area.{Area}
 use Rattle.image.specs.declared.Limits.{Limits}
+use Rattle.image.specs.declared.Layout.{Layout}
 use Rattle.image.specs.declared.Validated.{Validated}
 use Rattle.image.specs.declared.Validated.the-variants.{Refused, Valid}
 
@@ -70,8 +71,11 @@ layoutCheck image =
 unfoldable pub refusal : List ℕ → Limits → ℕ
 refusal image limits = firstIn (limitsCheck limits ∷ markCheck image ∷ versionCheck image ∷ layoutCheck image ∷ [])
 
+abbrev pub answer : ℕ → Layout → Validated
+answer number layout = cond (eqb number 0) (Valid layout) (Refused number)
+
 unfoldable pub validated : List ℕ → Limits → Validated
-validated image limits = cond (eqb (refusal image limits) 0) (Valid (layoutOf image)) (Refused (refusal image limits))
+validated image limits = answer (refusal image limits) (layoutOf image)
 
 -- document 01's number of an answer, 0 where nothing is refused
 abbrev pub validationNumber : Validated → ℕ

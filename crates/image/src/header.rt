@@ -11,9 +11,15 @@ use numbers::checks::unless;
 use numbers::words::byte_at;
 use numbers::words::word_at;
 
-// What the length list comes to: the sum of the lengths, and 4 where one of them is 0.
-pub struct Lengths {
+// The sum of the lengths, and 4 where one of them is 0.
+pub struct CheckedLengths {
     pub total: usize,
+    pub refusal: u8,
+}
+
+// The layout that the header says, and 4 where it breaks a rule.
+pub struct CheckedLayout {
+    pub layout: Layout,
     pub refusal: u8,
 }
 
@@ -39,7 +45,7 @@ pub fn routine_length(image: &[u8], k: usize) -> u16
     }
 }
 
-pub fn lengths_of(image: &[u8]) -> Lengths
+pub fn lengths_check(image: &[u8]) -> CheckedLengths
     ensures { λ r. ⌜ r .total ≡ sizeOf (now (image .entry)) ⌝ }
     ensures { λ r. ⌜ r .refusal ≡ lengthsCheck (now (image .entry)) ⌝ }
     ensures { λ r. ⌜ r .total ≤ 65535 * 255 ⌝ }
@@ -54,37 +60,29 @@ pub fn lengths_of(image: &[u8]) -> Lengths
         refusal = first(refusal, under(length, 1, 4));
         k += 1;
     }
-    Lengths { total, refusal }
+    CheckedLengths { total, refusal }
 }
 
-// The layout that the header says, given the sum of the lengths.
-pub fn layout_of(image: &[u8], size: usize) -> Layout
-    requires { ⌜ size ≡ sizeOf (now image) ⌝ }
-    ensures { λ r. ⌜ r ≡ layoutOf (now (image .entry)) ⌝ }
+pub fn layout_check(image: &[u8]) -> CheckedLayout
+    ensures { λ r. ⌜ r .layout ≡ layoutOf (now (image .entry)) ⌝ }
+    ensures { λ r. ⌜ r .refusal ≡ layoutCheck (now (image .entry)) ⌝ }
 {
+    let lengths = lengths_check(image);
+    let size = lengths.total;
+    let base = word_at(image, 5);
     let count = byte_at(image, 7) as usize;
-    Layout {
-        base: word_at(image, 5),
-        count,
-        code: 8 + 2 * count,
-        size,
-    }
-}
-
-// 4 where the layout breaks a rule, given what the lengths alone give.
-pub fn layout_check(image: &[u8], layout: Layout, lengths: u8) -> u8
-    requires { ⌜ (layout ≡ layoutOf (now image)) × (lengths ≡ lengthsCheck (now image)) ⌝ }
-    requires { ⌜ (layout .code ≤ 1000) × (layout .size ≤ 65535 * 255) ⌝ }
-    ensures { λ r. ⌜ r ≡ layoutCheck (now (image .entry)) ⌝ }
-{
-    let base = layout.base as usize;
-    let count = layout.count;
-    let size = layout.size;
-    let code = layout.code;
+    let code = 8 + 2 * count;
     let refusal = first(under(count, 1, 4), under(32, count, 4));
-    let refusal = first(refusal, lengths);
+    let refusal = first(refusal, lengths.refusal);
     let refusal = first(refusal, under(4096, size, 4));
-    let refusal = first(refusal, under(base, 0x8000, 4));
-    let refusal = first(refusal, under(0x10000, base + size, 4));
-    first(refusal, differ(image.len(), code + size, 4))
+    let refusal = first(refusal, under(base as usize, 0x8000, 4));
+    let refusal = first(refusal, under(0x10000, base as usize + size, 4));
+    let refusal = first(refusal, differ(image.len(), code + size, 4));
+    let layout = Layout {
+        base,
+        count,
+        code,
+        size,
+    };
+    CheckedLayout { layout, refusal }
 }

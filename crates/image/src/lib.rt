@@ -7,7 +7,7 @@ pub use access::granted;
 pub use areas::limits_of;
 pub use header::routine_length;
 ghost use mathlib.Core.Path.{_≡_};
-ghost use Rattle.image.specs.Validation.{validated};
+ghost use Rattle.image.specs.Validation.{answer as answerOf, validated};
 use numbers::checks::differ;
 use numbers::checks::first;
 use numbers::words::word_at;
@@ -36,21 +36,24 @@ pub enum Validated {
     Valid(Layout),
 }
 
-// The first refusal, in document 01's order, or the layout.
+fn answer(refusal: u8, layout: Layout) -> Validated
+    ensures { λ r. ⌜ r ≡ answerOf refusal layout ⌝ }
+{
+    if refusal == 0 {
+        Validated::Valid(layout)
+    } else {
+        Validated::Refused(refusal)
+    }
+}
+
+// The number of the first rule that is broken, in document 01's order, or the layout.
 pub fn validate(image: &[u8], limits: Limits) -> Validated
     ensures { λ r. ⌜ r ≡ validated (now (image .entry)) limits ⌝ }
 {
     let limits_refusal = areas::limits_check(limits);
     let mark_refusal = header::mark_check(image);
     let version_refusal = differ(word_at(image, 3) as usize, 1, 3);
-    let lengths = header::lengths_of(image);
-    let layout = header::layout_of(image, lengths.total);
-    let layout_refusal = header::layout_check(image, layout, lengths.refusal);
+    let checked = header::layout_check(image);
     let refusal = first(first(limits_refusal, mark_refusal), version_refusal);
-    let refusal = first(refusal, layout_refusal);
-    if refusal == 0 {
-        Validated::Valid(layout)
-    } else {
-        Validated::Refused(refusal)
-    }
+    answer(first(refusal, checked.refusal), checked.layout)
 }

@@ -40,14 +40,16 @@ fold-more f z left right assoc l k d h =
     (sum-append f z left assoc (take k l) (getD l k d ∷ []) ∙ ap (f (foldr f z (take k l))) (right (getD l k d)))
 
 pub total-more : (l : List ℕ) (k d : ℕ) → k < length l → total (take (k + 1) l) ≡ total (take k l) + getD l k d
+unfolding total
 total-more = fold-more _+_ 0 zero-add add-zero add-assoc
 
 pub firstIn-more : (l : List ℕ) (k d : ℕ) → k < length l → firstIn (take (k + 1) l) ≡ first (firstIn (take k l)) (getD l k d)
+unfolding firstIn
 firstIn-more = fold-more first 0 first-pass first-none first-assoc
 
 -- the sum of a front part, and of a longer one
 pub total-split : (k : ℕ) (l : List ℕ) → total (take k l) + total (drop k l) ≡ total l
-unfolding sum
+unfolding sum total
 total-split k l = sym (sum-append _+_ 0 zero-add add-assoc (take k l) (drop k l)) ∙ ap total (take-append-drop k l)
 
 pub total-front : (k : ℕ) (l : List ℕ) → total (take k l) ≤ total l
@@ -62,10 +64,12 @@ Passed [] = Unit {0}
 Passed (check ∷ checks) = (check ≡ 0) × Passed checks
 
 pub passed : (checks : List ℕ) → firstIn checks ≡ 0 → Passed checks
+unfolding firstIn
 passed [] e = tt
 passed (check ∷ checks) e = let h = first-zero _ _ e in (h .0, passed checks (h .1))
 
 pub pass : (checks : List ℕ) → Passed checks → firstIn checks ≡ 0
+unfolding firstIn
 pass [] h = refl
 pass (check ∷ checks) h = rw (h .0, first-pass) (pass checks (h .1))
 

@@ -3,8 +3,8 @@ use Prim.Native.Nat.{ℕ, _+_}
 use mathlib.Core.List.{List, foldr}
 use Rattle.numbers.specs.Checks.{first}
 
-abbrev pub total : List ℕ → ℕ
+unfoldable pub total : List ℕ → ℕ
 total numbers = foldr _+_ 0 numbers
 
-abbrev pub firstIn : List ℕ → ℕ
+unfoldable pub firstIn : List ℕ → ℕ
 firstIn checks = foldr first 0 checks

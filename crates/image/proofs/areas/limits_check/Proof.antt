@@ -1,4 +1,5 @@
 -- `image::areas::limits_check` meets its contract.
+use Rattle.numbers.specs.Folds.{firstIn}
 use Rattle.numbers.proofs.Folding.{first-assoc, first-none}
 use Rattle.image.specs.Validation.{limitsCheck}
 use borrow.Author.Needs.{needs}
@@ -6,7 +7,7 @@ use Rattle.image.proofs.areas.limits_check.Statement.{statement}
 use Rattle.image.proofs.areas.limits_check.Tie as tie
 
 returns : tie.Need-returns
-unfolding limitsCheck
+unfolding firstIn limitsCheck
 returns c =
     let c2 = c .before .before in
     let c5 = c2 .before .before .before in

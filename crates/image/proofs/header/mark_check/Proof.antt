@@ -7,6 +7,7 @@ use lib.ListN.{length}
 use lib.Seq.{length-take-le}
 use borrow.Author.Tests.{lt-ltb}
 use Rattle.numbers.specs.Checks.{first, under}
+use Rattle.numbers.specs.Folds.{firstIn}
 use Rattle.image.specs.Validation.{markCheck}
 use Rattle.image.proofs.Validating.{mark-checked}
 use borrow.Author.Needs.{needs}
@@ -14,7 +15,7 @@ use Rattle.image.proofs.header.mark_check.Statement.{statement}
 use Rattle.image.proofs.header.mark_check.Tie as tie
 
 returns : tie.Need-returns
-unfolding markCheck under first
+unfolding firstIn markCheck under first
 returns c = rw (lt-ltb _ _ (c .if1 .taken))
 
 slice-aggregate-same : tie.Need-slice-aggregate-same

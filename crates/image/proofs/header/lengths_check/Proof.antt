@@ -1,4 +1,4 @@
--- `image::header::lengths_of` meets its contract. The loop's invariant: the sum is where routine k begins, and the refusal is that of the
+-- `image::header::lengths_check` meets its contract. The loop's invariant: the sum is where routine k begins, and the refusal is that of the
 -- lengths before k.
 use Prim.Native.Nat.{_≤_, _*_, _-_}
 use mathlib.Core.Path.{_≡_, _∙_, sym, ap}
@@ -6,8 +6,8 @@ use native.Mathlib.Omega.{arith}
 use denote.Ref.{now}
 use Rattle.image.specs.Image.{countOf, startOf, endOf}
 use Rattle.image.proofs.Measuring.{start-zero, start-next, start-count, lengthsBefore, lengths-none, lengths-more, lengths-all}
-use Rattle.image.proofs.header.lengths_of.Statement.{statement}
-use Rattle.image.proofs.header.lengths_of.Tie as tie
+use Rattle.image.proofs.header.lengths_check.Statement.{statement}
+use Rattle.image.proofs.header.lengths_check.Tie as tie
 
 abbrev Inv-loop : tie.InvT-loop
 Inv-loop image count total₀ refusal₀ k₀ total refusal k =
@@ -42,8 +42,8 @@ returns c =
     let all : c1 .loop .k ≡ countOf image = rw (← c1 .before .byte-at .ensures) (omega arith) in
     (c1 .loop .inv .2 ∙ ap (startOf image) all ∙ start-count image, (c1 .loop .inv .3 ∙ ap (lengthsBefore image) all ∙ lengths-all image, omega arith))
 
-pub lengths-of-spec : {M : Type 1} → statement M
-lengths-of-spec =
+pub lengths-check-spec : {M : Type 1} → statement M
+lengths-check-spec =
     tie.close
     (tie.spec
     Inv-loop

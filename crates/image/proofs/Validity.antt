@@ -1,0 +1,199 @@
+-- An image and limits are valid exactly when document 01's rules hold of them.
+use Prim.Native.Nat.{ℕ, suc, _+_, _<_, _≤_}
+use mathlib.Core.Path.{_≡_, refl, sym, _∙_, ap}
+use mathlib.Core.Logic.{_⊎_, inl, inr, ⊎-elim, _↔_}
+use mathlib.Core.Bool.{Bool, true, false, cond}
+use mathlib.Core.List.{List, [], _∷_}
+use native.Mathlib.Omega.{arith}
+use lib.Dec.{eqb, ltb}
+use lib.ListN.{length, getD, take}
+use borrow.Author.Tests.{eqb-true, eqb-false, ltb-true, ltb-false}
+use Rattle.numbers.specs.Checks.{both, under, unless, differ}
+use Rattle.numbers.proofs.Checking.{by-cond, under-zero, under-pass, differ-zero, differ-pass}
+use Rattle.numbers.proofs.Folding.{Passed, passed, pass, passed-at, pass-at}
+use Rattle.image.specs.Image.{mark, versionOf, baseOf, countOf, lengthsOf, lengthAt, codeAt, sizeOf, layoutOf}
+use Rattle.image.specs.Validation.{areaCheck, apartCheck, limitsCheck, markCheck, versionCheck, lengthsCheck, layoutCheck, refusal, answer, validated, validationNumber}
+use Rattle.image.specs.Rules.{Within, AreaRules, LimitsRules, ImageRules}
+use Rattle.image.specs.declared.Area.{Area}
+use Rattle.image.specs.declared.Limits.{Limits}
+use Rattle.image.specs.declared.Layout.{Layout}
+use Rattle.image.specs.declared.Validated.{Validated}
+use Rattle.image.specs.declared.Validated.the-variants.{Refused, Valid}
+use Rattle.image.proofs.Measuring.{lengths-count}
+use Rattle.image.proofs.Validating.{three}
+
+module _ (area : Area) where
+  area-rules : areaCheck area ≡ 0 → AreaRules area
+  unfolding areaCheck
+  area-rules e =
+      let p = passed _ e in
+      record { ordered = under-zero _ _ 0 (p .0); low = under-zero _ _ 0 (p .1 .0); high = under-zero _ _ 0 (p .1 .1 .0) }
+
+  area-pass : AreaRules area → areaCheck area ≡ 0
+  unfolding areaCheck
+  area-pass h = pass _ (under-pass _ _ 1 (h .ordered), (under-pass _ _ 1 (h .low), (under-pass _ _ 1 (h .high), tt)))
+
+either : (t u : Bool) → both (unless t 1) (unless u 1) ≡ 0 → (t ≡ true) ⊎ (u ≡ true)
+unfolding both unless
+either true u e = inl refl
+either false true e = inr refl
+either false false e = let z : ⊥ = omega (arith, e) in absurd z
+
+module _ (a b : Area) where
+  apart-rule : apartCheck a b ≡ 0 → (address : ℕ) → Within a address → Within b address → ⊥
+  unfolding apartCheck
+  apart-rule e address p q =
+      ⊎-elim (λ t. omega (arith, ltb-true (a .high) (b .low) t)) (λ t. omega (arith, ltb-true (b .high) (a .low) t)) (either _ _ e)
+
+  apart-pass : AreaRules a → AreaRules b → ((address : ℕ) → Within a address → Within b address → ⊥) → apartCheck a b ≡ 0
+  unfolding apartCheck both unless
+  apart-pass p q apart = go (ltb (a .high) (b .low)) (ltb (b .high) (a .low)) refl refl
+    where
+      go : (t u : Bool) → ltb (a .high) (b .low) ≡ t → ltb (b .high) (a .low) ≡ u → both (unless t 1) (unless u 1) ≡ 0
+      go true u e1 e2 = refl
+      go false true e1 e2 = refl
+      go false false e1 e2 =
+          let l = ltb-false (a .high) (b .low) e1 in
+          let r = ltb-false (b .high) (a .low) e2 in
+          let f : a .low ≤ b .low → ⊥ = λ h. apart (b .low) (record { above = h; below = l }) (record { above = omega arith; below = q .ordered }) in
+          let g : b .low ≤ a .low → ⊥ = λ h. apart (a .low) (record { above = omega arith; below = p .ordered }) (record { above = h; below = r }) in
+          let z : ⊥ = omega (arith, f, g) in
+          absurd z
+
+module _ (limits : Limits) where
+  limits-rules : limitsCheck limits ≡ 0 → LimitsRules limits
+  unfolding limitsCheck
+  limits-rules e =
+      let p = passed _ e in
+      record {
+        grant = area-rules (limits .grant) (p .0);
+        stack = area-rules (limits .stack) (p .1 .0);
+        room = under-zero _ _ 0 (p .1 .1 .0);
+        apart = apart-rule (limits .grant) (limits .stack) (p .1 .1 .1 .0);
+      }
+
+  limits-pass : LimitsRules limits → limitsCheck limits ≡ 0
+  unfolding limitsCheck
+  limits-pass h =
+      pass _ (
+        area-pass (limits .grant) (h .grant),
+        (
+          area-pass (limits .stack) (h .stack),
+          (
+            under-pass _ _ 1 (h .room),
+            (apart-pass (limits .grant) (limits .stack) (h .grant) (h .stack) (h .apart), tt),
+          ),
+        ),
+      )
+
+module _ (image : List ℕ) where
+  mark-rule : markCheck image ≡ 0 → take 3 image ≡ mark
+  unfolding markCheck
+  mark-rule e =
+      let p = passed _ e in
+      let long : 3 ≤ length image = omega (arith, under-zero (length image) 8 1 (p .0)) in
+      let a : getD image 0 0 ≡ 0x53 = differ-zero _ _ 1 (p .1 .0) in
+      let b : getD image 1 0 ≡ 0x4C = differ-zero _ _ 1 (p .1 .1 .0) in
+      let c : getD image 2 0 ≡ 0x55 = differ-zero _ _ 1 (p .1 .1 .1 .0) in
+      three image long ∙ rw (a, b, c)
+
+  mark-pass : 8 ≤ length image → take 3 image ≡ mark → markCheck image ≡ 0
+  unfolding markCheck
+  mark-pass long e =
+      let whole = sym (three image (omega arith)) ∙ e in
+      let a : getD image 0 0 ≡ 0x53 = cc in
+      let b : getD image 1 0 ≡ 0x4C = cc in
+      let c : getD image 2 0 ≡ 0x55 = cc in
+      pass _ (under-pass _ _ 2 long, (rw a (differ-pass _ 2), (rw b (differ-pass _ 2), (rw c (differ-pass _ 2), tt))))
+
+  lengths-rule : lengthsCheck image ≡ 0 → (k : ℕ) → k < countOf image → 1 ≤ lengthAt image k
+  unfolding lengthsCheck lengthAt
+  lengths-rule e k h =
+      under-zero _ _ 3 (passed-at (λ n. under n 1 4) (lengthsOf image) (passed _ e) k (omega (arith, lengths-count image)))
+
+  lengths-pass : ((k : ℕ) → k < countOf image → 1 ≤ lengthAt image k) → lengthsCheck image ≡ 0
+  unfolding lengthsCheck lengthAt
+  lengths-pass h =
+      pass _ (pass-at (λ n. under n 1 4) (lengthsOf image) (λ k below. under-pass _ _ 4 (h k (omega (arith, lengths-count image)))))
+
+  image-rules : markCheck image ≡ 0 → versionCheck image ≡ 0 → layoutCheck image ≡ 0 → ImageRules image
+  unfolding versionCheck layoutCheck
+  image-rules m v l =
+      let p = passed _ l in
+      let q = p .1 .1 .1 in
+      record {
+        mark = mark-rule m;
+        version = differ-zero _ _ 2 v;
+        some = under-zero _ _ 3 (p .0);
+        few = under-zero _ _ 3 (p .1 .0);
+        lengths = lengths-rule (p .1 .1 .0);
+        code = under-zero _ _ 3 (q .0);
+        base = under-zero _ _ 3 (q .1 .0);
+        top = under-zero _ _ 3 (q .1 .1 .0);
+        whole = differ-zero _ _ 3 (q .1 .1 .1 .0);
+      }
+
+  version-pass : ImageRules image → versionCheck image ≡ 0
+  unfolding versionCheck
+  version-pass h = rw (h .version) (differ-pass _ 3)
+
+  layout-pass : ImageRules image → layoutCheck image ≡ 0
+  unfolding layoutCheck
+  layout-pass h =
+      pass _ (
+        under-pass _ _ 4 (h .some),
+        (
+          under-pass _ _ 4 (h .few),
+          (
+            lengths-pass (h .lengths),
+            (
+              under-pass _ _ 4 (h .code),
+              (
+                under-pass _ _ 4 (h .base),
+                (
+                  under-pass _ _ 4 (h .top),
+                  (rw (h .whole) (differ-pass _ 4), tt),
+                ),
+              ),
+            ),
+          ),
+        ),
+      )
+
+  -- an image that follows the rules has its header
+  header-whole : ImageRules image → 8 ≤ length image
+  unfolding codeAt
+  header-whole h = omega (arith, h .whole)
+
+module _ (image : List ℕ) (limits : Limits) where
+  -- document 01's number of what validating gives
+  pub number : validationNumber (validated image limits) ≡ refusal image limits
+  unfolding validated
+  number = go (eqb (refusal image limits) 0) refl
+    where
+      go : (t : Bool) → eqb (refusal image limits) 0 ≡ t → validationNumber (cond t (Valid (layoutOf image)) (Refused (refusal image limits))) ≡ refusal image limits
+      go true e = sym (eqb-true _ _ e)
+      go false e = refl
+
+  -- a valid answer holds the layout
+  pub valid-layout : (layout : Layout) → validated image limits ≡ Valid layout → layout ≡ layoutOf image
+  unfolding validated
+  valid-layout layout =
+      by-cond (eqb (refusal image limits) 0) (λ t e. cc)
+      (λ t e. let z : _≡_ {A = ℕ} 0 1 = cc in let z2 : ⊥ = omega arith in absurd z2)
+
+  pub valid-rules : (layout : Layout) → validated image limits ≡ Valid layout → LimitsRules limits × ImageRules image
+  unfolding refusal
+  valid-rules layout e =
+      let p = passed _ (sym number ∙ ap validationNumber e) in
+      (limits-rules limits (p .0), image-rules image (p .1 .0) (p .1 .1 .0) (p .1 .1 .1 .0))
+
+  pub rules-valid : LimitsRules limits → ImageRules image → validated image limits ≡ Valid (layoutOf image)
+  unfolding validated refusal
+  rules-valid l h =
+      let e : refusal image limits ≡ 0 =
+      pass _ (limits-pass limits l, (mark-pass image (header-whole image h) (h .mark), (version-pass image h, (layout-pass image h, tt)))) in
+      rw e
+
+  pub valid-exactly : (validated image limits ≡ Valid (layoutOf image)) ↔ (LimitsRules limits × ImageRules image)
+  valid-exactly = (valid-rules (layoutOf image), λ h. rules-valid (h .0) (h .1))

@@ -1,0 +1,33 @@
+-- `image::validate` meets its contract.
+use Rattle.numbers.specs.Folds.{firstIn}
+use Rattle.numbers.proofs.Folding.{first-assoc, first-none}
+use Rattle.image.specs.Image.{versionOf}
+use Rattle.image.specs.Validation.{validated, refusal, versionCheck}
+use borrow.Author.Needs.{needs}
+use Rattle.image.proofs.validate.Statement.{statement}
+use Rattle.image.proofs.validate.Tie as tie
+
+returns : tie.Need-returns
+unfolding firstIn validated refusal versionCheck versionOf
+returns c =
+    let c4 = c .before .before .before .before in
+    let c8 = c4 .before .before .before .before in
+    rw (c .answer .ensures, c .before .first3 .ensures, c .before .before .first2 .ensures, c .before .before .before .first .ensures)
+    (rw (c4 .layout-check .ensures .0, c4 .layout-check .ensures .1, c4 .before .differ .ensures, c4 .before .before .word-at .ensures)
+    (rw (c4 .before .before .before .mark-check .ensures, c8 .limits-check .ensures) (simp (first-assoc, first-none))))
+
+pub validate-spec : {M : Type 1} → statement M
+validate-spec =
+    tie.close
+    (tie.spec
+    (λ c κs. search needs)
+    (λ c κs. search needs)
+    (λ c κs. search needs)
+    (λ c. search needs)
+    (λ c κs. search needs)
+    (λ c κs. search needs)
+    (λ c κs. search needs)
+    (λ c κs. search needs)
+    (λ c κs. search needs)
+    (λ c κs. search needs)
+    returns)
