@@ -1,3 +1,4 @@
 pub mod Measuring
 pub mod Validating
 pub mod Validity
+pub mod ValidLayout

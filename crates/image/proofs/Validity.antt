@@ -1,16 +1,17 @@
 -- An image and limits are valid exactly when document 01's rules hold of them.
 use Prim.Native.Nat.{ℕ, suc, _+_, _<_, _≤_}
 use mathlib.Core.Path.{_≡_, refl, sym, _∙_, ap}
-use mathlib.Core.Logic.{_⊎_, inl, inr, ⊎-elim, _↔_}
-use mathlib.Core.Bool.{Bool, true, false, cond}
+use mathlib.Core.Logic.{_⊎_, inl, inr, ⊎-elim, ⊎-map, _↔_}
+use mathlib.Core.Bool.{Bool, true, false, cond, true≢false}
 use mathlib.Core.List.{List, [], _∷_}
 use native.Mathlib.Omega.{arith}
 use lib.Dec.{eqb, ltb}
 use lib.ListN.{length, getD, take}
-use borrow.Author.Tests.{eqb-true, eqb-false, ltb-true, ltb-false}
+use borrow.Author.Tests.{eqb-true, eqb-false, ltb-true, ltb-false, lt-ltb}
 use Rattle.numbers.specs.Checks.{both, under, unless, differ}
 use Rattle.numbers.proofs.Checking.{by-cond, under-zero, under-pass, differ-zero, differ-pass}
-use Rattle.numbers.proofs.Folding.{Passed, passed, pass, passed-at, pass-at}
+use Rattle.numbers.specs.Folds.{firstIn}
+use Rattle.numbers.proofs.Folding.{passed, passed-at, pass-at, _&_}
 use Rattle.image.specs.Image.{mark, versionOf, baseOf, countOf, lengthsOf, lengthAt, codeAt, sizeOf, layoutOf}
 use Rattle.image.specs.Validation.{areaCheck, apartCheck, limitsCheck, markCheck, versionCheck, lengthsCheck, layoutCheck, refusal, answer, validated, validationNumber}
 use Rattle.image.specs.Rules.{Within, AreaRules, LimitsRules, ImageRules}
@@ -30,14 +31,24 @@ module _ (area : Area) where
       record { ordered = under-zero _ _ 0 (p .0); low = under-zero _ _ 0 (p .1 .0); high = under-zero _ _ 0 (p .1 .1 .0) }
 
   area-pass : AreaRules area → areaCheck area ≡ 0
-  unfolding areaCheck
-  area-pass h = pass _ (under-pass _ _ 1 (h .ordered), (under-pass _ _ 1 (h .low), (under-pass _ _ 1 (h .high), tt)))
+  unfolding areaCheck firstIn
+  area-pass h = under-pass _ _ 1 (h .ordered) & under-pass _ _ 1 (h .low) & under-pass _ _ 1 (h .high) & refl
 
+differ-same : (a b k : ℕ) → a ≡ b → differ a b k ≡ 0
+differ-same a b k e = rw e (differ-pass b k)
+
+-- the areas don't meet exactly where one ends before the other begins
 either : (t u : Bool) → both (unless t 1) (unless u 1) ≡ 0 → (t ≡ true) ⊎ (u ≡ true)
 unfolding both unless
 either true u e = inl refl
 either false true e = inr refl
 either false false e = let z : ⊥ = omega (arith, e) in absurd z
+
+either-pass : (t u : Bool) → (t ≡ true) ⊎ (u ≡ true) → both (unless t 1) (unless u 1) ≡ 0
+unfolding both unless
+either-pass true u h = refl
+either-pass false true h = refl
+either-pass false false h = absurd (⊎-elim (λ e. true≢false (sym e)) (λ e. true≢false (sym e)) h)
 
 module _ (a b : Area) where
   apart-rule : apartCheck a b ≡ 0 → (address : ℕ) → Within a address → Within b address → ⊥
@@ -45,20 +56,21 @@ module _ (a b : Area) where
   apart-rule e address p q =
       ⊎-elim (λ t. omega (arith, ltb-true (a .high) (b .low) t)) (λ t. omega (arith, ltb-true (b .high) (a .low) t)) (either _ _ e)
 
-  apart-pass : AreaRules a → AreaRules b → ((address : ℕ) → Within a address → Within b address → ⊥) → apartCheck a b ≡ 0
-  unfolding apartCheck both unless
-  apart-pass p q apart = go (ltb (a .high) (b .low)) (ltb (b .high) (a .low)) refl refl
+  apart-ends : AreaRules a → AreaRules b → ((address : ℕ) → Within a address → Within b address → ⊥) →
+      (a .high < b .low) ⊎ (b .high < a .low)
+  apart-ends p q apart = go (ltb (a .high) (b .low)) refl
     where
-      go : (t u : Bool) → ltb (a .high) (b .low) ≡ t → ltb (b .high) (a .low) ≡ u → both (unless t 1) (unless u 1) ≡ 0
-      go true u e1 e2 = refl
-      go false true e1 e2 = refl
-      go false false e1 e2 =
-          let l = ltb-false (a .high) (b .low) e1 in
-          let r = ltb-false (b .high) (a .low) e2 in
-          let f : a .low ≤ b .low → ⊥ = λ h. apart (b .low) (record { above = h; below = l }) (record { above = omega arith; below = q .ordered }) in
-          let g : b .low ≤ a .low → ⊥ = λ h. apart (a .low) (record { above = omega arith; below = p .ordered }) (record { above = h; below = r }) in
-          let z : ⊥ = omega (arith, f, g) in
-          absurd z
+      go : (t : Bool) → ltb (a .high) (b .low) ≡ t → (a .high < b .low) ⊎ (b .high < a .low)
+      go true e = inl (ltb-true (a .high) (b .low) e)
+      go false e =
+          let reach = ltb-false (a .high) (b .low) e in
+          let f : a .low ≤ b .low → ⊥ = λ h. apart (b .low) (record { above = h; below = reach }) (record { above = omega arith; below = q .ordered }) in
+          let g : a .low ≤ b .high → ⊥ = λ h. apart (a .low) (record { above = omega arith; below = p .ordered }) (record { above = omega (arith, f); below = h }) in
+          inr (omega (arith, g))
+
+  apart-pass : (a .high < b .low) ⊎ (b .high < a .low) → apartCheck a b ≡ 0
+  unfolding apartCheck
+  apart-pass h = either-pass _ _ (⊎-map (lt-ltb (a .high) (b .low)) (lt-ltb (b .high) (a .low)) h)
 
 module _ (limits : Limits) where
   limits-rules : limitsCheck limits ≡ 0 → LimitsRules limits
@@ -72,19 +84,14 @@ module _ (limits : Limits) where
         apart = apart-rule (limits .grant) (limits .stack) (p .1 .1 .1 .0);
       }
 
+  pub limits-ends : LimitsRules limits → (limits .grant .high < limits .stack .low) ⊎ (limits .stack .high < limits .grant .low)
+  limits-ends h = apart-ends (limits .grant) (limits .stack) (h .grant) (h .stack) (h .apart)
+
   limits-pass : LimitsRules limits → limitsCheck limits ≡ 0
-  unfolding limitsCheck
+  unfolding limitsCheck firstIn
   limits-pass h =
-      pass _ (
-        area-pass (limits .grant) (h .grant),
-        (
-          area-pass (limits .stack) (h .stack),
-          (
-            under-pass _ _ 1 (h .room),
-            (apart-pass (limits .grant) (limits .stack) (h .grant) (h .stack) (h .apart), tt),
-          ),
-        ),
-      )
+      area-pass (limits .grant) (h .grant) & area-pass (limits .stack) (h .stack) & under-pass _ _ 1 (h .room) &
+      apart-pass (limits .grant) (limits .stack) (limits-ends h) & refl
 
 module _ (image : List ℕ) where
   mark-rule : markCheck image ≡ 0 → take 3 image ≡ mark
@@ -98,23 +105,21 @@ module _ (image : List ℕ) where
       three image long ∙ rw (a, b, c)
 
   mark-pass : 8 ≤ length image → take 3 image ≡ mark → markCheck image ≡ 0
-  unfolding markCheck
+  unfolding markCheck firstIn
   mark-pass long e =
       let whole = sym (three image (omega arith)) ∙ e in
       let a : getD image 0 0 ≡ 0x53 = cc in
       let b : getD image 1 0 ≡ 0x4C = cc in
       let c : getD image 2 0 ≡ 0x55 = cc in
-      pass _ (under-pass _ _ 2 long, (rw a (differ-pass _ 2), (rw b (differ-pass _ 2), (rw c (differ-pass _ 2), tt))))
+      under-pass _ _ 2 long & differ-same _ _ 2 a & differ-same _ _ 2 b & differ-same _ _ 2 c & refl
 
   lengths-rule : lengthsCheck image ≡ 0 → (k : ℕ) → k < countOf image → 1 ≤ lengthAt image k
   unfolding lengthsCheck lengthAt
-  lengths-rule e k h =
-      under-zero _ _ 3 (passed-at (λ n. under n 1 4) (lengthsOf image) (passed _ e) k (omega (arith, lengths-count image)))
+  lengths-rule e k h = under-zero _ _ 3 (passed-at (λ n. under n 1 4) (lengthsOf image) e k (omega (arith, lengths-count image)))
 
   lengths-pass : ((k : ℕ) → k < countOf image → 1 ≤ lengthAt image k) → lengthsCheck image ≡ 0
   unfolding lengthsCheck lengthAt
-  lengths-pass h =
-      pass _ (pass-at (λ n. under n 1 4) (lengthsOf image) (λ k below. under-pass _ _ 4 (h k (omega (arith, lengths-count image)))))
+  lengths-pass h = pass-at (λ n. under n 1 4) (lengthsOf image) (λ k below. under-pass _ _ 4 (h k (omega (arith, lengths-count image))))
 
   image-rules : markCheck image ≡ 0 → versionCheck image ≡ 0 → layoutCheck image ≡ 0 → ImageRules image
   unfolding versionCheck layoutCheck
@@ -135,30 +140,13 @@ module _ (image : List ℕ) where
 
   version-pass : ImageRules image → versionCheck image ≡ 0
   unfolding versionCheck
-  version-pass h = rw (h .version) (differ-pass _ 3)
+  version-pass h = differ-same _ _ 3 (h .version)
 
   layout-pass : ImageRules image → layoutCheck image ≡ 0
-  unfolding layoutCheck
+  unfolding layoutCheck firstIn
   layout-pass h =
-      pass _ (
-        under-pass _ _ 4 (h .some),
-        (
-          under-pass _ _ 4 (h .few),
-          (
-            lengths-pass (h .lengths),
-            (
-              under-pass _ _ 4 (h .code),
-              (
-                under-pass _ _ 4 (h .base),
-                (
-                  under-pass _ _ 4 (h .top),
-                  (rw (h .whole) (differ-pass _ 4), tt),
-                ),
-              ),
-            ),
-          ),
-        ),
-      )
+      under-pass _ _ 4 (h .some) & under-pass _ _ 4 (h .few) & lengths-pass (h .lengths) & under-pass _ _ 4 (h .code) &
+      under-pass _ _ 4 (h .base) & under-pass _ _ 4 (h .top) & differ-same _ _ 4 (h .whole) & refl
 
   -- an image that follows the rules has its header
   header-whole : ImageRules image → 8 ≤ length image
@@ -189,11 +177,11 @@ module _ (image : List ℕ) (limits : Limits) where
       (limits-rules limits (p .0), image-rules image (p .1 .0) (p .1 .1 .0) (p .1 .1 .1 .0))
 
   pub rules-valid : LimitsRules limits → ImageRules image → validated image limits ≡ Valid (layoutOf image)
-  unfolding validated refusal
+  unfolding validated refusal firstIn
   rules-valid l h =
-      let e : refusal image limits ≡ 0 =
-      pass _ (limits-pass limits l, (mark-pass image (header-whole image h) (h .mark), (version-pass image h, (layout-pass image h, tt)))) in
-      rw e
+      let passes : refusal image limits ≡ 0 =
+      limits-pass limits l & mark-pass image (header-whole image h) (h .mark) & version-pass image h & layout-pass image h & refl in
+      rw passes
 
   pub valid-exactly : (validated image limits ≡ Valid (layoutOf image)) ↔ (LimitsRules limits × ImageRules image)
   valid-exactly = (valid-rules (layoutOf image), λ h. rules-valid (h .0) (h .1))

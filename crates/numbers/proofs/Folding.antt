@@ -68,18 +68,19 @@ unfolding firstIn
 passed [] e = tt
 passed (check ∷ checks) e = let h = first-zero _ _ e in (h .0, passed checks (h .1))
 
-pub pass : (checks : List ℕ) → Passed checks → firstIn checks ≡ 0
-unfolding firstIn
-pass [] h = refl
-pass (check ∷ checks) h = rw (h .0, first-pass) (pass checks (h .1))
+infixr 5 _&_
+pub _&_ : {a b : ℕ} → a ≡ 0 → b ≡ 0 → first a b ≡ 0
+p & q = rw (p, first-pass) q
 
 -- a check of each number of a list
 module _ (check : ℕ → ℕ) where
-  pub passed-at : (l : List ℕ) → Passed (map check l) → (k : ℕ) → k < length l → check (getD l k 0) ≡ 0
-  passed-at [] h k below = absurd (not-suc-le-zero below)
-  passed-at (n ∷ l) h zero below = h .0
-  passed-at (n ∷ l) h (suc k) below = passed-at l (h .1) k (le-of-suc-le-suc below)
+  pub passed-at : (l : List ℕ) → firstIn (map check l) ≡ 0 → (k : ℕ) → k < length l → check (getD l k 0) ≡ 0
+  unfolding firstIn
+  passed-at [] e k below = absurd (not-suc-le-zero below)
+  passed-at (n ∷ l) e zero below = first-zero _ _ e .0
+  passed-at (n ∷ l) e (suc k) below = passed-at l (first-zero _ _ e .1) k (le-of-suc-le-suc below)
 
-  pub pass-at : (l : List ℕ) → ((k : ℕ) → k < length l → check (getD l k 0) ≡ 0) → Passed (map check l)
-  pass-at [] h = tt
-  pass-at (n ∷ l) h = (h 0 (suc-le-suc zero-le), pass-at l (λ k below. h (suc k) (suc-le-suc below)))
+  pub pass-at : (l : List ℕ) → ((k : ℕ) → k < length l → check (getD l k 0) ≡ 0) → firstIn (map check l) ≡ 0
+  unfolding firstIn
+  pass-at [] h = refl
+  pass-at (n ∷ l) h = h 0 (suc-le-suc zero-le) & pass-at l (λ k below. h (suc k) (suc-le-suc below))
