@@ -9,7 +9,10 @@ use Rattle.stm8.specs.Effects.{relative}
 use Rattle.stm8.specs.declared.Flow.{Flow}
 use Rattle.stm8.specs.declared.Flow.the-variants.{Next, Branch, Jump, Call, CallRelative, Return}
 use Rattle.image.specs.Image.{baseOf, startOf}
+use Rattle.image.specs.Validation.{validated}
+use Rattle.image.specs.declared.Limits.{Limits}
 use Rattle.image.specs.declared.Layout.{Layout}
+use Rattle.image.specs.declared.Validated.the-variants.{Valid}
 use Rattle.checker.specs.Sweep.{callee}
 use Rattle.checker.specs.declared.sweep.Routine.{Routine}
 use Rattle.checker.specs.declared.sweep.Progress.{Progress}
@@ -24,6 +27,12 @@ pub record Tables (plain after72 after90 : List ℕ) : Type 0 where
 -- where the routines before r begin
 abbrev pub Begins : List ℕ → List ℕ → ℕ → Type 0
 Begins image starts r = (k : ℕ) → k < r → getD starts k 0 ≡ startOf image k
+
+-- a valid image and what is made of it once for the whole sweep
+pub record Setting (image : List ℕ) (limits : Limits) (layout : Layout) (plain after72 after90 starts : List ℕ) : Type 0 where
+  pub valid : validated image limits ≡ Valid layout
+  pub tables : Tables plain after72 after90
+  pub begins : Begins image starts (layout .count)
 
 -- the callee of an instruction of routine r, 0 where it is no call
 abbrev pub called : List ℕ → ℕ → ℕ → Flow → ℕ

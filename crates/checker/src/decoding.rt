@@ -19,9 +19,7 @@ pub fn decode_at(
     after_72: &[u8; 256],
     after_90: &[u8; 256],
 ) -> Decoded
-    requires { ⌜ code ≡ codeAt (now image) ⌝ }
-    requires { ⌜ (at < r .end) × (code + r .end ≤ length (now image)) ⌝ }
-    requires { ⌜ Tables (now plain) (now after_72) (now after_90) ⌝ }
+    requires { ⌜ (code ≡ codeAt (now image)) × (at < r .end) × (code + r .end ≤ length (now image)) × Tables (now plain) (now after_72) (now after_90) ⌝ }
     ensures { λ d. ⌜ d ≡ decoded (bytesAt (now (image .entry)) r at) ⌝ }
 {
     Decoded::Outside

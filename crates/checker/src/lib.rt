@@ -32,8 +32,7 @@ pub enum Verdict {
 
 // What the sweep's last state says; 16 comes last.
 fn verdict_of(limits: Limits, layout: Layout, s: Sweep) -> Verdict
-    requires { ⌜ (1 ≤ layout .count) × (layout .count ≤ 32) ⌝ }
-    requires { ⌜ Swept s ⌝ }
+    requires { ⌜ (1 ≤ layout .count) × (layout .count ≤ 32) × Swept s ⌝ }
     ensures { λ r. ⌜ ((image : List ℕ) → layout .count ≡ countOf image → r ≡ verdict image limits s) ⌝ }
 {
     if s.refusal != 0 {
@@ -76,8 +75,7 @@ fn routine_starts(image: &[u8], count: usize) -> [u16; 32]
 
 // The sweep of a valid image's code, over as many marks as it has bytes.
 fn check_code(image: &[u8], limits: Limits, layout: Layout, marks: &mut [u16]) -> Verdict
-    requires { ⌜ validated (now image) limits ≡ Valid layout ⌝ }
-    requires { ⌜ length (now marks) ≡ layout .size ⌝ }
+    requires { ⌜ (validated (now image) limits ≡ Valid layout) × (length (now marks) ≡ layout .size) ⌝ }
     ensures { λ r. ⌜ codeChecked (now (image .entry)) limits ≡ (r, now (marks .exit)) ⌝ }
 {
     clear(marks);

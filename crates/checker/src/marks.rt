@@ -3,12 +3,19 @@ ghost use mathlib.Core.Path.{_≡_};
 ghost use Prim.Native.Nat.{_≤_};
 ghost use lib.ListN.{length, getD, set, replicate};
 
+pub fn wide(x: u16) -> usize
+    ensures { λ r. ⌜ r ≡ x ⌝ }
+    ensures { λ r. ⌜ r ≤ 65535 ⌝ }
+{
+    x as usize
+}
+
 // The mark at an offset, 0 past the end.
 pub fn mark_at(marks: &[u16], at: usize) -> usize
     ensures { λ r. ⌜ r ≡ getD (now (marks .entry)) at 0 ⌝ }
 {
     if at < marks.len() {
-        marks[at] as usize
+        wide(marks[at])
     } else {
         0
     }

@@ -11,6 +11,7 @@ use crate::depth::falls;
 use crate::depth::less;
 use crate::depth::popped;
 use crate::marks::mark_at;
+use crate::marks::wide;
 use crate::sweep::Routine;
 use effects::bytes_wide;
 use effects::relative;
@@ -141,7 +142,7 @@ fn callee(starts: &[u16; 32], base: u16, r: usize, address: usize) -> usize
     let offset = address - base;
     let mut j = 0;
     while j < r {
-        if starts[j] as usize == offset {
+        if wide(starts[j]) == offset {
             return j;
         }
         j += 1;
@@ -220,6 +221,7 @@ pub fn instruction_check(
 ) -> u8
     requires { ⌜ (r .start ≤ 4096) × (r .end ≤ 4096) × (at + n ≤ 4096) × (depth ≤ 65535) ⌝ }
     ensures { λ x. ⌜ ((image : List ℕ) → base ≡ baseOf image → callee ≡ called image (r .index) (at + n) (e .flow) → x ≡ instructionCheck image limits (now (marks .entry)) r at depth n e) ⌝ }
+    ensures { λ x. ⌜ (x ≡ 0 → depthCheck e depth ≡ 0) ⌝ }
 {
     let place = e.place;
     let flow = e.flow;

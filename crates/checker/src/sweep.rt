@@ -7,17 +7,16 @@ ghost use lib.ListN.{length};
 ghost use Rattle.stm8.specs.Decoding.{decodingNumber};
 ghost use Rattle.stm8.specs.declared.Decoded.the-variants.{Found};
 ghost use Rattle.image.specs.Image.{baseOf, countOf, endOf};
-ghost use Rattle.image.specs.Validation.{validated};
-ghost use Rattle.image.specs.declared.Validated.the-variants.{Valid};
 ghost use Rattle.checker.specs.Depth.{falls as fallsBy, after as afterOf};
 ghost use Rattle.checker.specs.Sweep.{callNeed, targeted, refused as refusedWith, moved as movedBy, decodedAt, startAt, routineSwept, closed as closedAt, stopped as stoppedAt, routinesFrom, begun};
-ghost use Rattle.checker.specs.Internal.{Tables, Begins, called, Ready, Between, Ended, Swept};
+ghost use Rattle.checker.specs.Internal.{Setting, Begins, called, Ready, Between, Ended, Swept};
 use crate::decoding::decode_at;
 use crate::depth::after;
 use crate::depth::falls;
 use crate::depth::larger;
 use crate::depth::less;
 use crate::marks::set_mark;
+use crate::marks::wide;
 use crate::rules::agree_check;
 use crate::rules::called_by;
 use crate::rules::instruction_check;
@@ -69,8 +68,8 @@ fn call_need(needs: &[u16; 32], callee: usize, depth: usize, flow: Flow) -> usiz
         Flow::Next => 0,
         Flow::Branch(_) => 0,
         Flow::Jump(_) => 0,
-        Flow::Call(_) => depth + 2 + needs[callee] as usize,
-        Flow::CallRelative(_) => depth + 2 + needs[callee] as usize,
+        Flow::Call(_) => depth + 2 + wide(needs[callee]),
+        Flow::CallRelative(_) => depth + 2 + wide(needs[callee]),
         Flow::Return => 0,
     }
 }
@@ -196,14 +195,11 @@ fn start_at(
     marks: &mut [u16],
     p: Progress,
 ) -> Progress
-    requires { ⌜ validated (now image) limits ≡ Valid layout ⌝ }
-    requires { ⌜ Tables (now plain) (now after_72) (now after_90) ⌝ }
-    requires { ⌜ Begins (now image) (now starts) (r .index) ⌝ }
-    requires { ⌜ Ready layout (now marks) r p ⌝ }
+    requires { ⌜ Setting (now image) limits layout (now plain) (now after_72) (now after_90) (now starts) × Ready layout (now marks) r p ⌝ }
     ensures { λ x. ⌜ startAt (now (image .entry)) limits (now (needs .entry)) r (now (marks .entry)) p ≡ (x, now (marks .exit)) ⌝ }
 {
     let at = p.at;
-    let mark = marks[at] as usize;
+    let mark = wide(marks[at]);
     let refusal = first(reach_check(p.falls, mark), agree_check(p.falls, mark));
     if refusal != 0 {
         return refused(p, refusal);
@@ -240,11 +236,7 @@ fn sweep_routine(
     marks: &mut [u16],
     s: Sweep,
 ) -> Progress
-    requires { ⌜ validated (now image) limits ≡ Valid layout ⌝ }
-    requires { ⌜ Tables (now plain) (now after_72) (now after_90) ⌝ }
-    requires { ⌜ Begins (now image) (now starts) (layout .count) ⌝ }
-    requires { ⌜ Between (now image) layout (now marks) s ⌝ }
-    requires { ⌜ s .index < layout .count ⌝ }
+    requires { ⌜ Setting (now image) limits layout (now plain) (now after_72) (now after_90) (now starts) × Between (now image) layout (now marks) s × (s .index < layout .count) ⌝ }
     ensures { λ x. ⌜ routineSwept (now (image .entry)) limits (now (marks .entry)) s ≡ (x, now (marks .exit)) ⌝ }
     ensures { λ x. ⌜ Ended (endOf (now (image .entry)) (s .index)) (s .index) x ⌝ }
 {
@@ -315,10 +307,7 @@ pub fn sweep_routines(
     starts: &[u16; 32],
     marks: &mut [u16],
 ) -> Sweep
-    requires { ⌜ validated (now image) limits ≡ Valid layout ⌝ }
-    requires { ⌜ Tables (now plain) (now after_72) (now after_90) ⌝ }
-    requires { ⌜ Begins (now image) (now starts) (layout .count) ⌝ }
-    requires { ⌜ length (now marks) ≡ layout .size ⌝ }
+    requires { ⌜ Setting (now image) limits layout (now plain) (now after_72) (now after_90) (now starts) × (length (now marks) ≡ layout .size) ⌝ }
     ensures { λ r. ⌜ routinesFrom (countOf (now (image .entry))) (now (image .entry)) limits (now (marks .entry)) begun ≡ (r, now (marks .exit)) ⌝ }
     ensures { λ r. ⌜ Swept r ⌝ }
 {

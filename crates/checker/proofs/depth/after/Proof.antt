@@ -1,31 +1,21 @@
+-- `checker::depth::after` meets its contract.
+use Rattle.checker.specs.Depth.{after}
 use borrow.Author.Needs.{needs}
+use native.Mathlib.Omega.{arith}
 use Rattle.checker.proofs.depth.after.Statement.{statement}
 use Rattle.checker.proofs.depth.after.Tie as tie
-use Rattle.checker.proofs.depth.after.Reads as reads
-use Rattle.checker.proofs.depth.after.Lts as lts
-use Rattle.checker.proofs.depth.less.Reads as less-reads
-use Rattle.checker.proofs.depth.popped.Reads as popped-reads
-use Rattle.checker.proofs.depth.pushed.Reads as pushed-reads
 
--- src/depth.rt:65:17
-popped-requires : tie.Need-popped-requires
-popped-requires c κs = search needs
-
--- src/depth.rt:65:5
-less-requires : tie.Need-less-requires
-less-requires c κs = search needs
-
--- src/depth.rt:65:30
-pushed-requires : tie.Need-pushed-requires
-pushed-requires c κs = search needs
-
--- src/depth.rt:65:5
-add-result : tie.Need-add-result
-add-result c = search needs
-
--- src/depth.rt:60:1
 returns : tie.Need-returns
-returns c = ?
+unfolding after
+returns c =
+    (rw (c .pushed .ensures .0, c .before .less .ensures, c .before .before .popped .ensures), omega arith)
 
 pub after-spec : {M : Type 1} → statement M
-after-spec = tie.close (tie.spec popped-requires less-requires pushed-requires add-result returns)
+after-spec =
+    tie.close
+    (tie.spec
+    (λ c κs. search needs)
+    (λ c κs. search needs)
+    (λ c κs. search needs)
+    (λ c. search needs)
+    returns)

@@ -1,29 +1,17 @@
+-- `checker::marks::mark_at` meets its contract: past the end of a list `getD` is 0.
+use mathlib.Core.Path.{sym}
+use lib.ListN.{List·getD-eq-default}
 use borrow.Author.Needs.{needs}
+use denote.Ref.{now}
 use Rattle.checker.proofs.marks.mark_at.Statement.{statement}
 use Rattle.checker.proofs.marks.mark_at.Tie as tie
-use Rattle.checker.proofs.marks.mark_at.Reads as reads
-use Rattle.checker.proofs.marks.mark_at.Lts as lts
-
--- src/marks.rt:11:9
-mul-result : tie.Need-mul-result
-mul-result c = search needs
-
--- src/marks.rt:11:9
-shared-slice-read-result : tie.Need-shared-slice-read-result
-shared-slice-read-result c = search needs
-
--- src/marks.rt:11:9
-cast-result : tie.Need-cast-result
-cast-result c = ?
-
--- src/marks.rt:7:1
-returns : tie.Need-returns
-returns c = search needs
-
--- src/marks.rt:7:1
-returns-2 : tie.Need-returns-2
-returns-2 c = ?
 
 pub mark-at-spec : {M : Type 1} → statement M
 mark-at-spec =
-    tie.close (tie.spec mul-result shared-slice-read-result cast-result returns returns-2)
+    tie.close
+    (tie.spec
+    (λ c. search needs)
+    (λ c. search needs)
+    (λ c κs. search needs)
+    (λ c. c .wide .ensures .0)
+    (λ c. sym (List·getD-eq-default (now (c .before .before .args .marks)) 0 (c .if1 .left))))

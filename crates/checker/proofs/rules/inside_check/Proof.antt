@@ -1,42 +1,25 @@
+-- `checker::rules::inside_check` meets its contract. The loop's invariant: the check of the marks that are left is that of them all.
+use Prim.Native.Nat.{_-_}
+use mathlib.Core.Path.{_≡_, refl, sym, _∙_}
+use Rattle.checker.specs.Sweep.{insideCheck}
+use Rattle.checker.proofs.Checks.{inside-stop, inside-more, inside-done}
+use native.Mathlib.Omega.{arith}
 use Rattle.checker.proofs.rules.inside_check.Statement.{statement}
 use Rattle.checker.proofs.rules.inside_check.Tie as tie
-use Rattle.checker.proofs.rules.inside_check.Reads as reads
-use Rattle.checker.proofs.rules.inside_check.Lts as lts
-use Rattle.checker.proofs.marks.mark_at.Reads as mark-at-reads
 
 abbrev Inv-loop : tie.InvT-loop
-Inv-loop marks from end i₀ i = ?
+Inv-loop marks from end i₀ i = insideCheck marks (end - i) i ≡ insideCheck marks (end - from) from
 
 abbrev μ-loop : tie.MeasureT-loop
-μ-loop marks from end i₀ i = ?
+μ-loop marks from end i₀ i = end - i
 
--- src/rules.rt:48:5
-loop-holds : tie.Need-loop-holds Inv-loop μ-loop
-loop-holds c = ?
-
--- src/rules.rt:49:12
-mark-at-requires : tie.Need-mark-at-requires Inv-loop μ-loop
-mark-at-requires c κs = ?
-
--- src/rules.rt:50:13
 returns : tie.Need-returns Inv-loop μ-loop
-returns c = ?
+returns c =
+    sym (inside-stop _ _ _ _ (c .before .before .loop-test .taken) (c .before .mark-at .ensures) (c .if1 .taken)) ∙ c .before .before .before .loop .inv
 
--- src/rules.rt:52:9
-add-i : tie.Need-add-i Inv-loop μ-loop
-add-i c = ?
-
--- src/rules.rt:48:5
-loop-less : tie.Need-loop-less Inv-loop μ-loop
-loop-less c = ?
-
--- src/rules.rt:48:5
 loop-again : tie.Need-loop-again Inv-loop μ-loop
-loop-again c = ?
-
--- src/rules.rt:44:1
-returns-2 : tie.Need-returns-2 Inv-loop μ-loop
-returns-2 c = ?
+loop-again c =
+    sym (inside-more _ _ _ _ (c .before .before .loop-test .taken) (c .before .mark-at .ensures) (c .if1 .left)) ∙ c .before .before .before .loop .inv
 
 pub inside-check-spec : {M : Type 1} → statement M
 inside-check-spec =
@@ -44,10 +27,10 @@ inside-check-spec =
     (tie.spec
     Inv-loop
     μ-loop
-    loop-holds
-    mark-at-requires
+    (λ c. refl)
+    (λ c κs. tt)
     returns
-    add-i
-    loop-less
+    (λ c. omega arith)
+    (λ c. omega arith)
     loop-again
-    returns-2)
+    (λ c. sym (inside-done _ _ _ (c .loop-test .left)) ∙ c .before .loop .inv))

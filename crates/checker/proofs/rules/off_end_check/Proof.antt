@@ -1,30 +1,25 @@
+-- `checker::rules::off_end_check` meets its contract.
+use Rattle.checker.specs.Sweep.{offEndCheck}
 use borrow.Author.Needs.{needs}
 use Rattle.checker.proofs.rules.off_end_check.Statement.{statement}
 use Rattle.checker.proofs.rules.off_end_check.Tie as tie
-use Rattle.checker.proofs.rules.off_end_check.Reads as reads
-use Rattle.checker.proofs.rules.off_end_check.Lts as lts
-use Rattle.checker.proofs.depth.falls.Reads as falls-reads
-use Rattle.numbers.proofs.checks.under.Reads as under-reads
 
--- src/rules.rt:202:8
-falls-requires : tie.Need-falls-requires
-falls-requires c κs = search needs
-
--- src/rules.rt:203:22
-add-under : tie.Need-add-under
-add-under c = search needs
-
--- src/rules.rt:203:9
-under-requires : tie.Need-under-requires
-under-requires c κs = search needs
-
--- src/rules.rt:198:1
 returns : tie.Need-returns
-returns c = ?
+unfolding offEndCheck
+returns c =
+    rw (c .under .ensures, ← c .before .before .falls .ensures, c .before .if1 .taken)
 
--- src/rules.rt:198:1
 returns-2 : tie.Need-returns-2
-returns-2 c = ?
+unfolding offEndCheck
+returns-2 c =
+    rw (← c .before .falls .ensures, c .if1 .left)
 
 pub off-end-check-spec : {M : Type 1} → statement M
-off-end-check-spec = tie.close (tie.spec falls-requires add-under under-requires returns returns-2)
+off-end-check-spec =
+    tie.close
+    (tie.spec
+    (λ c κs. search needs)
+    (λ c. search needs)
+    (λ c κs. search needs)
+    returns
+    returns-2)

@@ -1,109 +1,52 @@
+-- `checker::rules::store_check` meets its contract.
+use Rattle.checker.specs.Sweep.{storeCheck}
+use Rattle.checker.proofs.Checks.{wide-bound}
 use borrow.Author.Needs.{needs}
+use native.Mathlib.Omega.{arith}
 use Rattle.checker.proofs.rules.store_check.Statement.{statement}
 use Rattle.checker.proofs.rules.store_check.Tie as tie
-use Rattle.checker.proofs.rules.store_check.Reads as reads
-use Rattle.checker.proofs.rules.store_check.Lts as lts
-use Rattle.effects.proofs.bytes_wide.Reads as bytes-wide-reads
-use Rattle.image.proofs.granted.Reads as granted-reads
-use Rattle.numbers.proofs.checks.first.Reads as first-reads
-use Rattle.numbers.proofs.checks.under.Reads as under-reads
-use Rattle.numbers.proofs.checks.unless.Reads as unless-reads
 
--- src/rules.rt:88:27
-enum-told : tie.Need-enum-told
-enum-told c = search needs
-
--- src/rules.rt:89:23
-enum-known-place : tie.Need-enum-known-place
-enum-known-place c = search needs
-
--- src/rules.rt:89:58
-bytes-wide-requires : tie.Need-bytes-wide-requires
-bytes-wide-requires c κs = search needs
-
--- src/rules.rt:89:58
-cast-granted : tie.Need-cast-granted
-cast-granted c = ?
-
--- src/rules.rt:89:39
-granted-requires : tie.Need-granted-requires
-granted-requires c κs = search needs
-
--- src/rules.rt:89:32
-unless-requires : tie.Need-unless-requires
-unless-requires c κs = search needs
-
--- src/rules.rt:90:24
-enum-known-place-2 : tie.Need-enum-known-place-2
-enum-known-place-2 c = search needs
-
--- src/rules.rt:91:21
-cast-f : tie.Need-cast-f
-cast-f c = search needs
-
--- src/rules.rt:92:19
-under-requires : tie.Need-under-requires
-under-requires c κs = search needs
-
--- src/rules.rt:92:42
-add-under : tie.Need-add-under
-add-under c = search needs
-
--- src/rules.rt:92:57
-bytes-wide-requires-2 : tie.Need-bytes-wide-requires-2
-bytes-wide-requires-2 c κs = search needs
-
--- src/rules.rt:92:53
-add-under-2 : tie.Need-add-under-2
-add-under-2 c = ?
-
--- src/rules.rt:92:36
-under-requires-2 : tie.Need-under-requires-2
-under-requires-2 c κs = search needs
-
--- src/rules.rt:92:13
-first-requires : tie.Need-first-requires
-first-requires c κs = search needs
-
--- src/rules.rt:94:29
-enum-told-2 : tie.Need-enum-told-2
-enum-told-2 c = search needs
-
--- src/rules.rt:83:1
 returns : tie.Need-returns
-returns c = ?
+unfolding storeCheck
+returns c =
+    rw (c .enum-told .given .1)
 
--- src/rules.rt:83:1
 returns-2 : tie.Need-returns-2
-returns-2 c = ?
+unfolding storeCheck
+returns-2 c =
+    let c4 = c .before .before .before .before in
+    rw (c .unless .ensures, c .before .granted .ensures, c .before .before .bytes-wide .ensures, c4 .place .given .1)
 
--- src/rules.rt:83:1
 returns-3 : tie.Need-returns-3
-returns-3 c = ?
+unfolding storeCheck
+returns-3 c =
+    let c4 = c .before .before .before .before in
+    rw (c .first .ensures, c .before .under2 .ensures, c .before .before .bytes-wide2 .ensures, c .before .before .before .under .ensures, c4 .before .place2 .given .1)
 
--- src/rules.rt:83:1
 returns-4 : tie.Need-returns-4
-returns-4 c = ?
+unfolding storeCheck
+returns-4 c =
+    rw (c .enum-told2 .given .1)
 
 pub store-check-spec : {M : Type 1} → statement M
 store-check-spec =
     tie.close
     (tie.spec
-    enum-told
-    enum-known-place
-    bytes-wide-requires
-    cast-granted
-    granted-requires
-    unless-requires
-    enum-known-place-2
-    cast-f
-    under-requires
-    add-under
-    bytes-wide-requires-2
-    add-under-2
-    under-requires-2
-    first-requires
-    enum-told-2
+    (λ c. search needs)
+    (λ c. search needs)
+    (λ c κs. search needs)
+    (λ c. omega (arith, wide-bound (c .before .before .place .given .0 .1 .0) _ (c .bytes-wide .ensures)))
+    (λ c κs. search needs)
+    (λ c κs. search needs)
+    (λ c. search needs)
+    (λ c. search needs)
+    (λ c κs. search needs)
+    (λ c. search needs)
+    (λ c κs. search needs)
+    (λ c. omega (arith, wide-bound (c .before .before .before .place2 .given .0 .1 .0) _ (c .bytes-wide2 .ensures)))
+    (λ c κs. search needs)
+    (λ c κs. search needs)
+    (λ c. search needs)
     returns
     returns-2
     returns-3

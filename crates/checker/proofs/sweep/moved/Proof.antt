@@ -1,59 +1,29 @@
+-- `checker::sweep::moved` meets its contract.
+use Prim.Native.Nat.{_+_}
+use Rattle.checker.specs.Sweep.{moved}
 use borrow.Author.Needs.{needs}
 use Rattle.checker.proofs.sweep.moved.Statement.{statement}
 use Rattle.checker.proofs.sweep.moved.Tie as tie
-use Rattle.checker.proofs.sweep.moved.Reads as reads
-use Rattle.checker.proofs.sweep.moved.Lts as lts
-use Rattle.checker.proofs.depth.after.Reads as after-reads
-use Rattle.checker.proofs.depth.larger.Reads as larger-reads
-use Rattle.checker.proofs.sweep.call_need.Reads as call-need-reads
-use Rattle.checker.proofs.sweep.falling.Reads as falling-reads
 
--- src/sweep.rt:134:9
-after-requires : tie.Need-after-requires
-after-requires c κs = search needs
-
--- src/sweep.rt:135:23
-larger-requires : tie.Need-larger-requires
-larger-requires c κs = search needs
-
--- src/sweep.rt:135:9
-larger-requires-2 : tie.Need-larger-requires-2
-larger-requires-2 c κs = search needs
-
--- src/sweep.rt:138:13
-add-t10 : tie.Need-add-t10
-add-t10 c = search needs
-
--- src/sweep.rt:139:16
-falling-requires : tie.Need-falling-requires
-falling-requires c κs = search needs
-
--- src/sweep.rt:140:28
-call-need-requires : tie.Need-call-need-requires
-call-need-requires c κs = search needs
-
--- src/sweep.rt:140:15
-larger-requires-3 : tie.Need-larger-requires-3
-larger-requires-3 c κs = search needs
-
--- src/sweep.rt:141:16
-add-t14 : tie.Need-add-t14
-add-t14 c = search needs
-
--- src/sweep.rt:122:1
 returns : tie.Need-returns
-returns c = ?
+unfolding moved
+returns c =
+    let c4 = c .before .before .before .before in
+    let c8 = c4 .before .before .before .before in
+    λ image r ec.
+    rw (c .before .larger3 .ensures, c .before .before .call-need .ensures image (r .index) (c8 .args .p .at + c8 .args .n) ec, c .before .before .before .falling .ensures)
+    (rw (c4 .before .larger2 .ensures, c4 .before .before .larger .ensures, c4 .before .before .before .after .ensures .0))
 
 pub moved-spec : {M : Type 1} → statement M
 moved-spec =
     tie.close
     (tie.spec
-    after-requires
-    larger-requires
-    larger-requires-2
-    add-t10
-    falling-requires
-    call-need-requires
-    larger-requires-3
-    add-t14
+    (λ c κs. search needs)
+    (λ c κs. search needs)
+    (λ c κs. search needs)
+    (λ c. search needs)
+    (λ c κs. search needs)
+    (λ c κs. search needs)
+    (λ c κs. search needs)
+    (λ c. search needs)
     returns)

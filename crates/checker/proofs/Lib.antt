@@ -1,0 +1,4 @@
+pub mod Checks
+pub mod Layouts
+pub mod Starts
+pub mod Routines
