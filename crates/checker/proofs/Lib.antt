@@ -2,3 +2,4 @@ pub mod Checks
 pub mod Layouts
 pub mod Starts
 pub mod Routines
+pub mod Verdicts

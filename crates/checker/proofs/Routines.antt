@@ -4,6 +4,8 @@ use mathlib.Core.Path.{_≡_, refl, sym, ap, _∙_}
 use mathlib.Core.List.{List, [], _∷_}
 use native.Mathlib.Omega.{arith}
 use lib.ListN.{length, getD, set, replicate}
+use lib.Seq.{getD-set-same, getD-set-other}
+use borrow.Author.Count.{below-more}
 use borrow.Author.Tests.{ne-eqb, eq-eqb, lt-ltb, le-ltb}
 use Rattle.image.specs.Image.{countOf, startOf, endOf}
 use Rattle.image.specs.Validation.{validated}
@@ -12,7 +14,7 @@ use Rattle.image.specs.declared.Layout.{Layout}
 use Rattle.image.specs.declared.Validated.the-variants.{Valid}
 use Rattle.image.proofs.Measuring.{start-next}
 use Rattle.checker.specs.Sweep.{startAt, startsFrom, entered, routineOf, routineSwept, closed, stopped, routinesFrom, begun}
-use Rattle.checker.specs.Internal.{NeedsBelow, Ready, Between, Ended, Swept}
+use Rattle.checker.specs.Internal.{Begins, NeedsBelow, Ready, Between, Ended, Swept}
 use Rattle.checker.specs.declared.sweep.Routine.{Routine}
 use Rattle.checker.specs.declared.sweep.Progress.{Progress}
 use Rattle.checker.specs.declared.sweep.Sweep.{Sweep}
@@ -82,6 +84,13 @@ module _ (image : List ℕ) (limits : Limits) (marks : List ℕ) (s : Sweep) (co
     unfolding routinesFrom
     routines-turn none = let more : count - s .index ≡ suc (count - (s .index + 1)) = omega arith in rw (more, e, eq-eqb (p .refusal) 0 none)
 
+-- where one routine more begins
+pub begins-more : (image starts : List ℕ) (k at : ℕ) → k < length starts → at ≡ startOf image k → Begins image starts k → Begins image (set starts k at) (k + 1)
+begins-more image starts k at inside e begins =
+    below-more (λ j. getD (set starts k at) j 0 ≡ startOf image j) k
+    (λ j h. getD-set-other starts k j at 0 (λ z. omega arith) ∙ begins j h)
+    (getD-set-same starts k at 0 inside ∙ e)
+
 -- a bound on every element holds after a store within it
 getD-set-le : (l : List ℕ) (i v k m : ℕ) → v ≤ m → ((j : ℕ) → getD l j 0 ≤ m) → getD (set l i v) k 0 ≤ m
 getD-set-le [] i v k m p h = h k
@@ -97,7 +106,7 @@ zeros-at (suc n) (suc k) = zeros-at n k
 
 -- what holds between routines
 pub record Going (image : List ℕ) (limits : Limits) (layout : Layout) (marks₀ marks : List ℕ) (s : Sweep) : Type 0 where
-  pub same : routinesFrom (layout .count - s .index) image limits marks s ≡ routinesFrom (layout .count) image limits marks₀ begun
+  pub same : routinesFrom (layout .count - s .index) image limits marks s ≡ routinesFrom (countOf image) image limits marks₀ begun
   pub between : Between image layout marks s
 
 pub going-turns : (image : List ℕ) (limits : Limits) (layout : Layout) (marks₀ marks : List ℕ) (s : Sweep) → Going image limits layout marks₀ marks s →

@@ -104,13 +104,13 @@ cond-bound false n m h = omega arith
 
 module _ (image : List ℕ) (limits : Limits) (layout : Layout) (needs : List ℕ) (r : Routine) (marks : List ℕ) (p : Progress)
     (ready : Ready layout marks r p) (below : NeedsBelow needs (r .index)) (q : Progress) (marks′ : List ℕ) where
-  refused-went : (k : ℕ) → (k ≡ 0 → ⊥) → (marks₁ : List ℕ) → length marks₁ ≡ length marks → (refused p k, marks₁) ≡ (q, marks′) → Went r marks marks′ p q
+  refused-went : (k : ℕ) → (k ≡ 0 → ⊥) → (marks₁ : List ℕ) → length marks₁ ≡ length marks → _≡_ {A = Progress × List ℕ} (refused p k, marks₁) (q, marks′) → Went r marks marks′ p q
   refused-went k some marks₁ same e =
       subst (λ (x : Progress × List ℕ). Went r marks (x .1) p (x .0)) e
       record { low = omega arith; high = omega (arith, ready .at); falls = ready .falls; need = ready .need; count = ready .count; on = λ none. absurd (some none); cells = same }
 
   moved-went : (depth n : ℕ) (e : Effect) → (0 < n) × (n ≤ r .end - p .at) → depthCheck e depth ≡ 0 → (marks₁ : List ℕ) → length marks₁ ≡ length marks →
-      (moved image needs r p depth n e, targeted (baseOf image) marks₁ (p .at + n) (after e depth + 1) (e .flow)) ≡ (q, marks′) → Went r marks marks′ p q
+      _≡_ {A = Progress × List ℕ} (moved image needs r p depth n e, targeted (baseOf image) marks₁ (p .at + n) (after e depth + 1) (e .flow)) (q, marks′) → Went r marks marks′ p q
   unfolding moved
   moved-went depth n e inside check marks₁ same eq =
       let deep = depth-passed e depth check in
