@@ -5,13 +5,14 @@ use mathlib.Core.Bool.{cond}
 use mathlib.Core.List.{List, [], _∷_, map}
 use native.Mathlib.Omega.{arith}
 use lib.Dec.{eqb}
-use lib.ListN.{getD}
+use lib.ListN.{getD, length, set, replicate, getD-replicate}
+use lib.Seq.{getD-set-same, getD-set-other}
 use Rattle.numbers.specs.Computed.{counting}
 use Rattle.numbers.proofs.Computing.{NoneOf, member, below, rest}
 use Rattle.stm8.specs.OpcodeMap.{Entry, Blank, Is, bitRow}
 use Rattle.stm8.specs.Decoding.{foundAs}
 use Rattle.stm8.specs.declared.Instruction.{Instruction}
-use Rattle.stm8.specs.declared.Decoded.the-variants.{Outside}
+use Rattle.stm8.specs.declared.Decoded.the-variants.{Found, Outside}
 use Rattle.decoder.specs.Rows.{inRow}
 
 column-below : (op : ℕ) → op % 16 < 16
@@ -36,3 +37,13 @@ pub bit-column : (f g : ℕ → Instruction) (op : ℕ) →
     getD (bitRow f g) (op % 16) Blank ≡ cond (eqb (op % 16 % 2) 0) (Is (f (op % 16 / 2))) (Is (g (op % 16 / 2)))
 bit-column f g op =
     below 15 (λ k. getD (bitRow f g) k Blank) (λ k. cond (eqb (k % 2) 0) (Is (f (k / 2))) (Is (g (k / 2)))) refl (op % 16) (column-below op)
+
+-- a row of blanks, and one into which an entry is put
+pub nothing : (op size : ℕ) → Outside ≡ inRow (replicate 16 Blank) op size
+nothing op size = ap (foundAs size) (sym (getD-replicate 16 (op % 16) Blank Blank (column-below op)))
+
+pub put-here : (row : List Entry) → length row ≡ 16 → (op size k : ℕ) (i : Instruction) → op % 16 ≡ k → Found i size ≡ inRow (set row k (Is i)) op size
+put-here row e op size k i at = rw (← at) (ap (foundAs size) (sym (getD-set-same row (op % 16) (Is i) Blank (rw (e) (column-below op)))))
+
+pub put-elsewhere : (row : List Entry) (op size k : ℕ) (i : Instruction) → (op % 16 ≡ k → ⊥) → inRow row op size ≡ inRow (set row k (Is i)) op size
+put-elsewhere row op size k i other = ap (foundAs size) (sym (getD-set-other row k (op % 16) (Is i) Blank other))

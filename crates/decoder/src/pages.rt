@@ -7,55 +7,51 @@ use crate::rows::row_1;
 use crate::rows::row_2;
 use crate::rows::row_3;
 use crate::rows::row_4;
-use crate::rows::row_4_after_90;
 use crate::rows::row_5;
-use crate::rows::row_6;
-use crate::rows::row_7;
 use crate::rows::row_8;
 use crate::rows::row_9;
 use crate::rows::row_a;
-use crate::rows::row_a_after_72;
-use crate::rows::row_a_after_90;
 use crate::rows::row_b;
 use crate::rows::row_c;
-use crate::rows::row_c_after_90;
 use crate::shared::alu_row;
 use crate::shared::bit_jump_row;
 use crate::shared::bit_row;
 use crate::shared::modify_row;
+use crate::shared::one_entry;
 use crate::shared::register_row_5;
 use crate::shared::register_row_8;
 use crate::shared::register_row_9;
+use crate::shared::two_entries;
 use numbers::words::byte_at;
 use numbers::words::word;
+use stm8::AluOp;
 use stm8::BitOp;
 use stm8::Decoded;
+use stm8::Instruction;
 use stm8::Offset;
 use stm8::Operand;
 use stm8::Register;
+use stm8::WordAluOp;
 
 fn plain_entry(op: u8, size: usize, a: u8, b: u8, c: u8, d: u8) -> Decoded
     ensures { λ r. ⌜ r ≡ foundAs size (entry Plain op a b c d) ⌝ }
 {
+    let ab = word(a, b);
     let row = op / 16;
     match row {
-        1 => row_1(op, size, a, word(a, b)),
+        1 => row_1(op, size, a, ab),
         2 => row_2(op, size, a),
-        3 => row_3(op, size, a, word(a, b), word(b, c)),
+        3 => row_3(op, size, a, ab, word(b, c)),
         4 => row_4(op, size, a, b),
-        5 => row_5(op, size, a, word(a, b), word(c, d)),
-        6 => row_6(op, size, a),
-        7 => row_7(op, size, a),
+        5 => row_5(op, size, a, ab, word(c, d)),
+        6 => one_entry(op, size, 11, Instruction::Store(Operand::Sp(a))),
+        7 => one_entry(op, size, 11, Instruction::Alu(AluOp::Ld, Operand::Sp(a))),
         8 => row_8(op, size),
         9 => row_9(op, size),
-        10 => row_a(op, size, a, word(a, b)),
+        10 => row_a(op, size, a, ab),
         11 => row_b(op, size, a),
-        12 => row_c(op, size, word(a, b)),
-        13 => alu_row(
-            op,
-            size,
-            Operand::Indexed(Register::X, Offset::Word(word(a, b))),
-        ),
+        12 => row_c(op, size, ab),
+        13 => alu_row(op, size, Operand::Indexed(Register::X, Offset::Word(ab))),
         14 => alu_row(op, size, Operand::Indexed(Register::X, Offset::Byte(a))),
         15 => alu_row(op, size, Operand::Indexed(Register::X, Offset::Zero)),
         _ => Decoded::Outside,
@@ -65,12 +61,20 @@ fn plain_entry(op: u8, size: usize, a: u8, b: u8, c: u8, d: u8) -> Decoded
 fn after_72_entry(op: u8, size: usize, a: u8, b: u8, c: u8) -> Decoded
     ensures { λ r. ⌜ r ≡ foundAs size (entry After72 op a b c 0) ⌝ }
 {
+    let ab = word(a, b);
     let row = op / 16;
     match row {
-        0 => bit_jump_row(op, size, word(a, b), c),
-        1 => bit_row(op, size, BitOp::Bset, BitOp::Bres, word(a, b)),
-        5 => modify_row(op, size, Operand::Long(word(a, b))),
-        10 => row_a_after_72(op, size, word(a, b)),
+        0 => bit_jump_row(op, size, ab, c),
+        1 => bit_row(op, size, BitOp::Bset, BitOp::Bres, ab),
+        5 => modify_row(op, size, Operand::Long(ab)),
+        10 => two_entries(
+            op,
+            size,
+            2,
+            Instruction::WordAlu(WordAluOp::Subw, Register::Y, ab),
+            9,
+            Instruction::WordAlu(WordAluOp::Addw, Register::Y, ab),
+        ),
         _ => Decoded::Outside,
     }
 }
@@ -78,31 +82,48 @@ fn after_72_entry(op: u8, size: usize, a: u8, b: u8, c: u8) -> Decoded
 fn after_90_entry(op: u8, size: usize, a: u8, b: u8) -> Decoded
     ensures { λ r. ⌜ r ≡ foundAs size (entry After90 op a b 0 0) ⌝ }
 {
+    let ab = word(a, b);
     let row = op / 16;
     match row {
-        1 => bit_row(op, size, BitOp::Bcpl, BitOp::Bccm, word(a, b)),
-        4 => row_4_after_90(op, size),
+        1 => bit_row(op, size, BitOp::Bcpl, BitOp::Bccm, ab),
+        4 => one_entry(op, size, 2, Instruction::Mul(Register::Y)),
         5 => register_row_5(op, size, Register::Y),
         8 => register_row_8(op, size, Register::Y),
         9 => register_row_9(op, size, Register::Y),
-        10 => row_a_after_90(op, size, word(a, b)),
-        12 => row_c_after_90(op, size, word(a, b)),
-        13 => alu_row(
+        10 => two_entries(
             op,
             size,
-            Operand::Indexed(Register::Y, Offset::Word(word(a, b))),
+            3,
+            Instruction::WordAlu(WordAluOp::Cpw, Register::Y, ab),
+            14,
+            Instruction::LoadWord(Register::Y, Operand::ImmediateWord(ab)),
         ),
+        12 => two_entries(
+            op,
+            size,
+            14,
+            Instruction::LoadWord(Register::Y, Operand::Long(ab)),
+            15,
+            Instruction::StoreWord(Register::Y, Operand::Long(ab)),
+        ),
+        13 => alu_row(op, size, Operand::Indexed(Register::Y, Offset::Word(ab))),
         14 => alu_row(op, size, Operand::Indexed(Register::Y, Offset::Byte(a))),
         15 => alu_row(op, size, Operand::Indexed(Register::Y, Offset::Zero)),
         _ => Decoded::Outside,
     }
 }
 
+fn wide(length: u8) -> usize
+    ensures { λ r. ⌜ r ≡ length ⌝ }
+{
+    length as usize
+}
+
 // The length that a table has for an op-code.
 fn length_of(op: u8, lengths: &[u8; 256]) -> usize
     ensures { λ r. ⌜ r ≡ getD (now (lengths .entry)) op 0 ⌝ }
 {
-    lengths[op as usize] as usize
+    wide(lengths[op as usize])
 }
 
 // The bytes on the page without pre-code, by its table of lengths.

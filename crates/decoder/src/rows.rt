@@ -1,19 +1,13 @@
-// The rows of the op-code map, by the op-code's high digit; a column is its low digit. a, ab, bc and cd are the byte and the words after
-// the op-code.
+// The rows without pre-code that are like no other, by the op-code's high digit. a and b are the bytes after the op-code, ab, bc and cd
+// the words that begin there.
 ghost use mathlib.Core.Path.{_≡_};
-ghost use Rattle.stm8.specs.OpcodeMap.{one, two, row1, row2, row3, row4, row5, row8, row9, rowA, rowB, rowC};
-ghost use Rattle.stm8.specs.declared.Register.the-variants.{Y};
-ghost use Rattle.stm8.specs.declared.Operand.the-variants.{ImmediateWord, Long, Sp};
-ghost use Rattle.stm8.specs.declared.AluOp.the-variants.{Ld};
-ghost use Rattle.stm8.specs.declared.WordAluOp.the-variants.{Addw, Cpw, Subw};
-ghost use Rattle.stm8.specs.declared.Instruction.the-variants.{Alu, LoadWord, Mul, Store, StoreWord, WordAlu};
+ghost use Rattle.stm8.specs.OpcodeMap.{row1, row2, row3, row4, row5, row8, row9, rowA, rowB, rowC};
 ghost use Rattle.decoder.specs.Rows.{inRow};
 use crate::shared::alu_row;
 use crate::shared::modify_row;
 use crate::shared::register_row_5;
 use crate::shared::register_row_8;
 use crate::shared::register_row_9;
-use stm8::AluOp;
 use stm8::Condition;
 use stm8::Decoded;
 use stm8::FlagOp;
@@ -22,7 +16,6 @@ use stm8::Operand;
 use stm8::Register;
 use stm8::WordAluOp;
 
-// Without pre-code.
 pub fn row_1(op: u8, size: usize, a: u8, ab: u16) -> Decoded
     ensures { λ r. ⌜ r ≡ inRow (row1 a ab) op size ⌝ }
 {
@@ -103,26 +96,6 @@ pub fn row_5(op: u8, size: usize, a: u8, ab: u16, cd: u16) -> Decoded
     }
 }
 
-pub fn row_6(op: u8, size: usize, a: u8) -> Decoded
-    ensures { λ r. ⌜ r ≡ inRow (one 0xb (Store (Sp a))) op size ⌝ }
-{
-    let column = op % 16;
-    match column {
-        11 => Decoded::Found(Instruction::Store(Operand::Sp(a)), size),
-        _ => Decoded::Outside,
-    }
-}
-
-pub fn row_7(op: u8, size: usize, a: u8) -> Decoded
-    ensures { λ r. ⌜ r ≡ inRow (one 0xb (Alu Ld (Sp a))) op size ⌝ }
-{
-    let column = op % 16;
-    match column {
-        11 => Decoded::Found(Instruction::Alu(AluOp::Ld, Operand::Sp(a)), size),
-        _ => Decoded::Outside,
-    }
-}
-
 pub fn row_8(op: u8, size: usize) -> Decoded
     ensures { λ r. ⌜ r ≡ inRow row8 op size ⌝ }
 {
@@ -184,53 +157,5 @@ pub fn row_c(op: u8, size: usize, ab: u16) -> Decoded
         14 => Decoded::Found(Instruction::LoadWord(Register::X, Operand::Long(ab)), size),
         15 => Decoded::Found(Instruction::StoreWord(Register::X, Operand::Long(ab)), size),
         _ => alu_row(op, size, Operand::Long(ab)),
-    }
-}
-
-// After 72.
-pub fn row_a_after_72(op: u8, size: usize, ab: u16) -> Decoded
-    ensures { λ r. ⌜ r ≡ inRow (two 2 (WordAlu Subw Y ab) 9 (WordAlu Addw Y ab)) op size ⌝ }
-{
-    let column = op % 16;
-    match column {
-        2 => Decoded::Found(Instruction::WordAlu(WordAluOp::Subw, Register::Y, ab), size),
-        9 => Decoded::Found(Instruction::WordAlu(WordAluOp::Addw, Register::Y, ab), size),
-        _ => Decoded::Outside,
-    }
-}
-
-// After 90.
-pub fn row_4_after_90(op: u8, size: usize) -> Decoded
-    ensures { λ r. ⌜ r ≡ inRow (one 2 (Mul Y)) op size ⌝ }
-{
-    let column = op % 16;
-    match column {
-        2 => Decoded::Found(Instruction::Mul(Register::Y), size),
-        _ => Decoded::Outside,
-    }
-}
-
-pub fn row_a_after_90(op: u8, size: usize, ab: u16) -> Decoded
-    ensures { λ r. ⌜ r ≡ inRow (two 3 (WordAlu Cpw Y ab) 0xe (LoadWord Y (ImmediateWord ab))) op size ⌝ }
-{
-    let column = op % 16;
-    match column {
-        3 => Decoded::Found(Instruction::WordAlu(WordAluOp::Cpw, Register::Y, ab), size),
-        14 => Decoded::Found(
-            Instruction::LoadWord(Register::Y, Operand::ImmediateWord(ab)),
-            size,
-        ),
-        _ => Decoded::Outside,
-    }
-}
-
-pub fn row_c_after_90(op: u8, size: usize, ab: u16) -> Decoded
-    ensures { λ r. ⌜ r ≡ inRow (two 0xe (LoadWord Y (Long ab)) 0xf (StoreWord Y (Long ab))) op size ⌝ }
-{
-    let column = op % 16;
-    match column {
-        14 => Decoded::Found(Instruction::LoadWord(Register::Y, Operand::Long(ab)), size),
-        15 => Decoded::Found(Instruction::StoreWord(Register::Y, Operand::Long(ab)), size),
-        _ => Decoded::Outside,
     }
 }

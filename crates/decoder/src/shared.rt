@@ -1,6 +1,6 @@
 // Rows that several pages or registers share. The columns that a row of its own gives are outside the set here.
 ghost use mathlib.Core.Path.{_≡_};
-ghost use Rattle.stm8.specs.OpcodeMap.{Blank, indexedRow, modifyRow, bitRow, registerRow5, registerRow8, registerRow9};
+ghost use Rattle.stm8.specs.OpcodeMap.{Blank, one, two, indexedRow, modifyRow, bitRow, registerRow5, registerRow8, registerRow9};
 ghost use Rattle.stm8.specs.declared.Instruction.the-variants.{Bit, BitJump};
 ghost use Rattle.stm8.specs.declared.BitTest.the-variants.{Btjt, Btjf};
 ghost use Rattle.decoder.specs.Rows.{inRow};
@@ -122,5 +122,27 @@ pub fn register_row_9(op: u8, size: usize, register: Register) -> Decoded
         14 => Decoded::Found(Instruction::LoadHalf(register, Half::High), size),
         15 => Decoded::Found(Instruction::LoadHalf(register, Half::Low), size),
         _ => Decoded::Outside,
+    }
+}
+
+// A row with one entry.
+pub fn one_entry(op: u8, size: usize, k: u8, i: Instruction) -> Decoded
+    ensures { λ r. ⌜ r ≡ inRow (one k i) op size ⌝ }
+{
+    if op % 16 == k {
+        Decoded::Found(i, size)
+    } else {
+        Decoded::Outside
+    }
+}
+
+// A row with two.
+pub fn two_entries(op: u8, size: usize, k: u8, i: Instruction, l: u8, j: Instruction) -> Decoded
+    ensures { λ r. ⌜ r ≡ inRow (two k i l j) op size ⌝ }
+{
+    if op % 16 == l {
+        Decoded::Found(j, size)
+    } else {
+        one_entry(op, size, k, i)
     }
 }

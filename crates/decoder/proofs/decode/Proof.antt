@@ -1,67 +1,25 @@
+-- `decoder::decode` meets its contract: the first byte selects the page, whose table holds the lengths of the map.
+use denote.Ref.{now}
+use borrow.Author.Tests.{ne-eqb}
 use borrow.Author.Needs.{needs}
+use Rattle.stm8.specs.OpcodeMap.{Plain, After72, After90}
+use Rattle.stm8.specs.Decoding.{decoded}
+use Rattle.stm8.proofs.Lengths.{in-page}
 use Rattle.decoder.proofs.decode.Statement.{statement}
 use Rattle.decoder.proofs.decode.Tie as tie
-use Rattle.decoder.proofs.decode.Reads as reads
-use Rattle.decoder.proofs.decode.Lts as lts
-use Rattle.decoder.proofs.pages.after_72.Reads as after-72-reads
-use Rattle.decoder.proofs.pages.after_90.Reads as after-90-reads
-use Rattle.decoder.proofs.pages.plain.Reads as plain-reads
-use Rattle.numbers.proofs.words.byte_at.Reads as byte-at-reads
-use Rattle.stm8.proofs.after_72_lengths.Reads as after-72-lengths-reads
-use Rattle.stm8.proofs.after_90_lengths.Reads as after-90-lengths-reads
-use Rattle.stm8.proofs.plain_lengths.Reads as plain-lengths-reads
-
--- src/lib.rt:35:9
-byte-at-requires : tie.Need-byte-at-requires
-byte-at-requires c κs = search needs
-
--- src/lib.rt:37:40
-after-72-lengths-requires : tie.Need-after-72-lengths-requires
-after-72-lengths-requires c κs = search needs
-
--- src/lib.rt:37:9
-after-72-requires : tie.Need-after-72-requires
-after-72-requires c κs = search needs
-
--- src/lib.rt:37:9
-returns : tie.Need-returns
-returns c = ?
-
--- src/lib.rt:40:40
-after-90-lengths-requires : tie.Need-after-90-lengths-requires
-after-90-lengths-requires c κs = search needs
-
--- src/lib.rt:40:9
-after-90-requires : tie.Need-after-90-requires
-after-90-requires c κs = search needs
-
--- src/lib.rt:40:9
-returns-2 : tie.Need-returns-2
-returns-2 c = ?
-
--- src/lib.rt:42:26
-plain-lengths-requires : tie.Need-plain-lengths-requires
-plain-lengths-requires c κs = search needs
-
--- src/lib.rt:42:5
-plain-requires : tie.Need-plain-requires
-plain-requires c κs = search needs
-
--- src/lib.rt:32:1
-returns-3 : tie.Need-returns-3
-returns-3 c = ?
 
 pub decode-spec : {M : Type 1} → statement M
+unfolding decoded
 decode-spec =
     tie.close
     (tie.spec
-    byte-at-requires
-    after-72-lengths-requires
-    after-72-requires
-    returns
-    after-90-lengths-requires
-    after-90-requires
-    returns-2
-    plain-lengths-requires
-    plain-requires
-    returns-3)
+    (λ c κs. search needs)
+    (λ c κs. search needs)
+    (λ c κs. search needs)
+    (λ c. rw (c .after-72 .ensures, in-page (now (c .before .before .before .before .before .before .args .bytes)) (λ k. c .before .before .before .before .before .shared-slice-known .given k .fits) After72 (λ p. c .before .before .after-72-lengths .result) (c .before .before .after-72-lengths .ensures), ← c .before .before .before .before .byte-at .ensures, c .before .before .before .if1 .taken))
+    (λ c κs. search needs)
+    (λ c κs. search needs)
+    (λ c. rw (c .after-90 .ensures, in-page (now (c .before .before .before .before .before .before .before .args .bytes)) (λ k. c .before .before .before .before .before .before .shared-slice-known .given k .fits) After90 (λ p. c .before .before .after-90-lengths .result) (c .before .before .after-90-lengths .ensures), ← c .before .before .before .before .before .byte-at .ensures, ne-eqb _ _ (c .before .before .before .before .if1 .left), c .before .before .before .if2 .taken))
+    (λ c κs. search needs)
+    (λ c κs. search needs)
+    (λ c. rw (c .plain .ensures, in-page (now (c .before .before .before .before .before .before .before .args .bytes)) (λ k. c .before .before .before .before .before .before .shared-slice-known .given k .fits) Plain (λ p. c .before .before .plain-lengths .result) (c .before .before .plain-lengths .ensures), ← c .before .before .before .before .before .byte-at .ensures, ne-eqb _ _ (c .before .before .before .before .if1 .left), ne-eqb _ _ (c .before .before .before .if2 .left), c .before .before .before .before .before .byte-at .ensures)))

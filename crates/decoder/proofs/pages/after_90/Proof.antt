@@ -1,58 +1,24 @@
+-- `decoder::pages::after_90` meets its contract.
+use native.Mathlib.Omega.{arith}
+use denote.Ref.{now}
+use borrow.Author.Tests.{le-leb}
 use borrow.Author.Needs.{needs}
+use Rattle.stm8.specs.OpcodeMap.{After90}
+use Rattle.decoder.proofs.Sizes.{outside, cut-short, whole}
 use Rattle.decoder.proofs.pages.after_90.Statement.{statement}
 use Rattle.decoder.proofs.pages.after_90.Tie as tie
-use Rattle.decoder.proofs.pages.after_90.Reads as reads
-use Rattle.decoder.proofs.pages.after_90.Lts as lts
-use Rattle.decoder.proofs.pages.after_90_entry.Reads as after-90-entry-reads
-use Rattle.decoder.proofs.pages.length_of.Reads as length-of-reads
-use Rattle.numbers.proofs.words.byte_at.Reads as byte-at-reads
-
--- src/pages.rt:162:9
-returns : tie.Need-returns
-returns c = ?
-
--- src/pages.rt:164:9
-byte-at-requires : tie.Need-byte-at-requires
-byte-at-requires c κs = search needs
-
--- src/pages.rt:165:9
-length-of-requires : tie.Need-length-of-requires
-length-of-requires c κs = search needs
-
--- src/pages.rt:167:9
-returns-2 : tie.Need-returns-2
-returns-2 c = ?
-
--- src/pages.rt:170:9
-returns-3 : tie.Need-returns-3
-returns-3 c = ?
-
--- src/pages.rt:172:30
-byte-at-requires-2 : tie.Need-byte-at-requires-2
-byte-at-requires-2 c κs = search needs
-
--- src/pages.rt:172:49
-byte-at-requires-3 : tie.Need-byte-at-requires-3
-byte-at-requires-3 c κs = search needs
-
--- src/pages.rt:172:5
-after-90-entry-requires : tie.Need-after-90-entry-requires
-after-90-entry-requires c κs = search needs
-
--- src/pages.rt:158:1
-returns-4 : tie.Need-returns-4
-returns-4 c = ?
 
 pub after-90-spec : {M : Type 1} → statement M
 after-90-spec =
     tie.close
     (tie.spec
-    returns
-    byte-at-requires
-    length-of-requires
-    returns-2
-    returns-3
-    byte-at-requires-2
-    byte-at-requires-3
-    after-90-entry-requires
-    returns-4)
+    (λ c. rw (le-leb _ _ (c .if1 .taken)))
+    (λ c κs. search needs)
+    (λ c κs. search needs)
+    (λ c. outside After90 (now (c .before .before .before .before .before .args .bytes)) (now (c .before .before .before .before .before .args .lengths)) (c .before .before .before .if1 .left) (c .before .before .byte-at .ensures) (c .before .length-of .ensures) (c .if2 .taken))
+    (λ c. cut-short After90 (now (c .before .before .before .before .before .before .args .bytes)) (now (c .before .before .before .before .before .before .args .lengths)) (c .before .before .before .before .if1 .left) (c .before .before .before .byte-at .ensures) (c .before .before .length-of .ensures) (c .before .if2 .left) (c .if3 .taken))
+    (λ c κs. search needs)
+    (λ c κs. search needs)
+    (λ c κs. search needs)
+    (λ c. rw (c .after-90-entry .ensures, c .before .byte-at3 .ensures, c .before .before .byte-at2 .ensures, c .before .before .before .before .before .before .byte-at .ensures)
+    (whole After90 (now (c .before .before .before .before .before .before .before .before .before .args .bytes)) (now (c .before .before .before .before .before .before .before .before .before .args .lengths)) (c .before .before .before .before .before .before .before .if1 .left) (c .before .before .before .before .before .before .byte-at .ensures) (c .before .before .before .before .before .length-of .ensures) (c .before .before .before .before .if2 .left) (c .before .before .before .if3 .left))))

@@ -1,29 +1,19 @@
+-- `decoder::rows::row_3` meets its contract.
+use mathlib.Core.Path.{refl, _∙_}
+use mathlib.Core.List.{[], _∷_}
+use Rattle.stm8.specs.OpcodeMap.{Blank, modifyRow, row3}
+use Rattle.stm8.specs.declared.Operand.the-variants.{Short}
+use Rattle.decoder.proofs.Defaults.{other-columns}
 use borrow.Author.Needs.{needs}
 use Rattle.decoder.proofs.rows.row_3.Statement.{statement}
 use Rattle.decoder.proofs.rows.row_3.Tie as tie
-use Rattle.decoder.proofs.rows.row_3.Reads as reads
-use Rattle.decoder.proofs.rows.row_3.Lts as lts
-use Rattle.decoder.proofs.shared.modify_row.Reads as modify-row-reads
-
--- src/rows.rt:77:14
-modify-row-requires : tie.Need-modify-row-requires
-modify-row-requires c κs = search needs
-
--- src/rows.rt:66:1
-returns : tie.Need-returns
-returns c = ?
-
--- src/rows.rt:66:1
-returns-2 : tie.Need-returns-2
-returns-2 c = ?
-
--- src/rows.rt:66:1
-returns-3 : tie.Need-returns-3
-returns-3 c = ?
-
--- src/rows.rt:66:1
-returns-4 : tie.Need-returns-4
-returns-4 c = ?
 
 pub row-3-spec : {M : Type 1} → statement M
-row-3-spec = tie.close (tie.spec modify-row-requires returns returns-2 returns-3 returns-4)
+row-3-spec =
+    tie.close
+    (tie.spec
+    (λ c κs. search needs)
+    (λ c. rw (c .match .keys1))
+    (λ c. rw (c .match .keys2))
+    (λ c. rw (c .match .keys3))
+    (λ c. let s = c .before .before .args in c .modify-row .ensures ∙ other-columns (11 ∷ 5 ∷ 2 ∷ []) (row3 (s .a) (s .ab) (s .bc)) (modifyRow (Short (s .a)) Blank Blank Blank) refl (s .op) (s .size) (c .before .match .rest)))

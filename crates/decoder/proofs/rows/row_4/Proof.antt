@@ -1,29 +1,19 @@
+-- `decoder::rows::row_4` meets its contract.
+use mathlib.Core.Path.{refl, _∙_}
+use mathlib.Core.List.{[], _∷_}
+use Rattle.stm8.specs.OpcodeMap.{Blank, modifyRow, row4}
+use Rattle.stm8.specs.declared.Operand.the-variants.{Accumulator}
+use Rattle.decoder.proofs.Defaults.{other-columns}
 use borrow.Author.Needs.{needs}
 use Rattle.decoder.proofs.rows.row_4.Statement.{statement}
 use Rattle.decoder.proofs.rows.row_4.Tie as tie
-use Rattle.decoder.proofs.rows.row_4.Reads as reads
-use Rattle.decoder.proofs.rows.row_4.Lts as lts
-use Rattle.decoder.proofs.shared.modify_row.Reads as modify-row-reads
-
--- src/rows.rt:89:14
-modify-row-requires : tie.Need-modify-row-requires
-modify-row-requires c κs = search needs
-
--- src/rows.rt:81:1
-returns : tie.Need-returns
-returns c = ?
-
--- src/rows.rt:81:1
-returns-2 : tie.Need-returns-2
-returns-2 c = ?
-
--- src/rows.rt:81:1
-returns-3 : tie.Need-returns-3
-returns-3 c = ?
-
--- src/rows.rt:81:1
-returns-4 : tie.Need-returns-4
-returns-4 c = ?
 
 pub row-4-spec : {M : Type 1} → statement M
-row-4-spec = tie.close (tie.spec modify-row-requires returns returns-2 returns-3 returns-4)
+row-4-spec =
+    tie.close
+    (tie.spec
+    (λ c κs. search needs)
+    (λ c. rw (c .match .keys1))
+    (λ c. rw (c .match .keys2))
+    (λ c. rw (c .match .keys3))
+    (λ c. let s = c .before .before .args in c .modify-row .ensures ∙ other-columns (11 ∷ 5 ∷ 2 ∷ []) (row4 (s .a) (s .b)) (modifyRow Accumulator Blank Blank Blank) refl (s .op) (s .size) (c .before .match .rest)))

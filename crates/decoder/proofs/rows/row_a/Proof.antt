@@ -1,29 +1,19 @@
+-- `decoder::rows::row_a` meets its contract.
+use mathlib.Core.Path.{refl, _∙_}
+use mathlib.Core.List.{[], _∷_}
+use Rattle.stm8.specs.OpcodeMap.{indexedRow, rowA}
+use Rattle.stm8.specs.declared.Operand.the-variants.{Immediate}
+use Rattle.decoder.proofs.Defaults.{other-columns}
 use borrow.Author.Needs.{needs}
 use Rattle.decoder.proofs.rows.row_a.Statement.{statement}
 use Rattle.decoder.proofs.rows.row_a.Tie as tie
-use Rattle.decoder.proofs.rows.row_a.Reads as reads
-use Rattle.decoder.proofs.rows.row_a.Lts as lts
-use Rattle.decoder.proofs.shared.alu_row.Reads as alu-row-reads
-
--- src/rows.rt:163:14
-alu-row-requires : tie.Need-alu-row-requires
-alu-row-requires c κs = search needs
-
--- src/rows.rt:152:1
-returns : tie.Need-returns
-returns c = ?
-
--- src/rows.rt:152:1
-returns-2 : tie.Need-returns-2
-returns-2 c = ?
-
--- src/rows.rt:152:1
-returns-3 : tie.Need-returns-3
-returns-3 c = ?
-
--- src/rows.rt:152:1
-returns-4 : tie.Need-returns-4
-returns-4 c = ?
 
 pub row-a-spec : {M : Type 1} → statement M
-row-a-spec = tie.close (tie.spec alu-row-requires returns returns-2 returns-3 returns-4)
+row-a-spec =
+    tie.close
+    (tie.spec
+    (λ c κs. search needs)
+    (λ c. rw (c .match .keys1))
+    (λ c. rw (c .match .keys2))
+    (λ c. rw (c .match .keys3))
+    (λ c. let s = c .before .before .args in c .alu-row .ensures ∙ other-columns (14 ∷ 13 ∷ 3 ∷ []) (rowA (s .a) (s .ab)) (indexedRow (Immediate (s .a))) refl (s .op) (s .size) (c .before .match .rest)))

@@ -1,33 +1,20 @@
+-- `decoder::rows::row_c` meets its contract.
+use mathlib.Core.Path.{refl, _∙_}
+use mathlib.Core.List.{[], _∷_}
+use Rattle.stm8.specs.OpcodeMap.{indexedRow, rowC}
+use Rattle.stm8.specs.declared.Operand.the-variants.{Long}
+use Rattle.decoder.proofs.Defaults.{other-columns}
 use borrow.Author.Needs.{needs}
 use Rattle.decoder.proofs.rows.row_c.Statement.{statement}
 use Rattle.decoder.proofs.rows.row_c.Tie as tie
-use Rattle.decoder.proofs.rows.row_c.Reads as reads
-use Rattle.decoder.proofs.rows.row_c.Lts as lts
-use Rattle.decoder.proofs.shared.alu_row.Reads as alu-row-reads
-
--- src/rows.rt:186:14
-alu-row-requires : tie.Need-alu-row-requires
-alu-row-requires c κs = search needs
-
--- src/rows.rt:177:1
-returns : tie.Need-returns
-returns c = ?
-
--- src/rows.rt:177:1
-returns-2 : tie.Need-returns-2
-returns-2 c = ?
-
--- src/rows.rt:177:1
-returns-3 : tie.Need-returns-3
-returns-3 c = ?
-
--- src/rows.rt:177:1
-returns-4 : tie.Need-returns-4
-returns-4 c = ?
-
--- src/rows.rt:177:1
-returns-5 : tie.Need-returns-5
-returns-5 c = ?
 
 pub row-c-spec : {M : Type 1} → statement M
-row-c-spec = tie.close (tie.spec alu-row-requires returns returns-2 returns-3 returns-4 returns-5)
+row-c-spec =
+    tie.close
+    (tie.spec
+    (λ c κs. search needs)
+    (λ c. rw (c .match .keys1))
+    (λ c. rw (c .match .keys2))
+    (λ c. rw (c .match .keys3))
+    (λ c. rw (c .match .keys4))
+    (λ c. let s = c .before .before .args in c .alu-row .ensures ∙ other-columns (15 ∷ 14 ∷ 13 ∷ 7 ∷ []) (rowC (s .ab)) (indexedRow (Long (s .ab))) refl (s .op) (s .size) (c .before .match .rest)))

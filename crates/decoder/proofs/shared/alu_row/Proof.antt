@@ -1,64 +1,23 @@
+-- `decoder::shared::alu_row` meets its contract.
+use mathlib.Core.Path.{refl}
+use mathlib.Core.List.{[], _∷_}
+use Rattle.stm8.specs.OpcodeMap.{indexedRow}
+use Rattle.decoder.proofs.Defaults.{other-columns}
 use Rattle.decoder.proofs.shared.alu_row.Statement.{statement}
 use Rattle.decoder.proofs.shared.alu_row.Tie as tie
-use Rattle.decoder.proofs.shared.alu_row.Reads as reads
-use Rattle.decoder.proofs.shared.alu_row.Lts as lts
-
--- src/shared.rt:19:1
-returns : tie.Need-returns
-returns c = ?
-
--- src/shared.rt:19:1
-returns-2 : tie.Need-returns-2
-returns-2 c = ?
-
--- src/shared.rt:19:1
-returns-3 : tie.Need-returns-3
-returns-3 c = ?
-
--- src/shared.rt:19:1
-returns-4 : tie.Need-returns-4
-returns-4 c = ?
-
--- src/shared.rt:19:1
-returns-5 : tie.Need-returns-5
-returns-5 c = ?
-
--- src/shared.rt:19:1
-returns-6 : tie.Need-returns-6
-returns-6 c = ?
-
--- src/shared.rt:19:1
-returns-7 : tie.Need-returns-7
-returns-7 c = ?
-
--- src/shared.rt:19:1
-returns-8 : tie.Need-returns-8
-returns-8 c = ?
-
--- src/shared.rt:19:1
-returns-9 : tie.Need-returns-9
-returns-9 c = ?
-
--- src/shared.rt:19:1
-returns-10 : tie.Need-returns-10
-returns-10 c = ?
-
--- src/shared.rt:19:1
-returns-11 : tie.Need-returns-11
-returns-11 c = ?
 
 pub alu-row-spec : {M : Type 1} → statement M
 alu-row-spec =
     tie.close
     (tie.spec
-    returns
-    returns-2
-    returns-3
-    returns-4
-    returns-5
-    returns-6
-    returns-7
-    returns-8
-    returns-9
-    returns-10
-    returns-11)
+    (λ c. rw (c .match .keys1))
+    (λ c. rw (c .match .keys2))
+    (λ c. rw (c .match .keys3))
+    (λ c. rw (c .match .keys4))
+    (λ c. rw (c .match .keys5))
+    (λ c. rw (c .match .keys6))
+    (λ c. rw (c .match .keys7))
+    (λ c. rw (c .match .keys8))
+    (λ c. rw (c .match .keys9))
+    (λ c. rw (c .match .keys10))
+    (λ c. let s = c .before .args in other-columns (11 ∷ 10 ∷ 9 ∷ 8 ∷ 6 ∷ 5 ∷ 4 ∷ 2 ∷ 1 ∷ 0 ∷ []) (indexedRow (s .x)) [] refl (s .op) (s .size) (c .match .rest)))

@@ -1,15 +1,14 @@
+-- `decoder::shared::bit_jump_row` meets its contract.
+use Rattle.stm8.specs.declared.Instruction.the-variants.{BitJump}
+use Rattle.stm8.specs.declared.BitTest.the-variants.{Btjf, Btjt}
+use Rattle.decoder.proofs.Defaults.{bit-column}
+use borrow.Author.Tests.{ne-eqb}
 use Rattle.decoder.proofs.shared.bit_jump_row.Statement.{statement}
 use Rattle.decoder.proofs.shared.bit_jump_row.Tie as tie
-use Rattle.decoder.proofs.shared.bit_jump_row.Reads as reads
-use Rattle.decoder.proofs.shared.bit_jump_row.Lts as lts
-
--- src/shared.rt:73:1
-returns : tie.Need-returns
-returns c = ?
-
--- src/shared.rt:73:1
-returns-2 : tie.Need-returns-2
-returns-2 c = ?
 
 pub bit-jump-row-spec : {M : Type 1} → statement M
-bit-jump-row-spec = tie.close (tie.spec returns returns-2)
+bit-jump-row-spec =
+    tie.close
+    (tie.spec
+    (λ c. let s = c .before .args in rw (bit-column (λ n. BitJump Btjt n (s .address) (s .offset)) (λ n. BitJump Btjf n (s .address) (s .offset)) (s .op), c .if1 .taken))
+    (λ c. let s = c .before .args in rw (bit-column (λ n. BitJump Btjt n (s .address) (s .offset)) (λ n. BitJump Btjf n (s .address) (s .offset)) (s .op), ne-eqb _ _ (c .if1 .left))))

@@ -1,15 +1,13 @@
+-- `decoder::shared::bit_row` meets its contract.
+use Rattle.stm8.specs.declared.Instruction.the-variants.{Bit}
+use Rattle.decoder.proofs.Defaults.{bit-column}
+use borrow.Author.Tests.{ne-eqb}
 use Rattle.decoder.proofs.shared.bit_row.Statement.{statement}
 use Rattle.decoder.proofs.shared.bit_row.Tie as tie
-use Rattle.decoder.proofs.shared.bit_row.Reads as reads
-use Rattle.decoder.proofs.shared.bit_row.Lts as lts
-
--- src/shared.rt:61:1
-returns : tie.Need-returns
-returns c = ?
-
--- src/shared.rt:61:1
-returns-2 : tie.Need-returns-2
-returns-2 c = ?
 
 pub bit-row-spec : {M : Type 1} → statement M
-bit-row-spec = tie.close (tie.spec returns returns-2)
+bit-row-spec =
+    tie.close
+    (tie.spec
+    (λ c. let s = c .before .args in rw (bit-column (λ n. Bit (s .even) n (s .address)) (λ n. Bit (s .odd) n (s .address)) (s .op), c .if1 .taken))
+    (λ c. let s = c .before .args in rw (bit-column (λ n. Bit (s .even) n (s .address)) (λ n. Bit (s .odd) n (s .address)) (s .op), ne-eqb _ _ (c .if1 .left))))

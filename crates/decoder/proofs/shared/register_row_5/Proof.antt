@@ -1,23 +1,16 @@
+-- `decoder::shared::register_row_5` meets its contract.
+use mathlib.Core.Path.{refl}
+use mathlib.Core.List.{[], _∷_}
+use Rattle.stm8.specs.OpcodeMap.{Blank, registerRow5}
+use Rattle.decoder.proofs.Defaults.{other-columns}
 use Rattle.decoder.proofs.shared.register_row_5.Statement.{statement}
 use Rattle.decoder.proofs.shared.register_row_5.Tie as tie
-use Rattle.decoder.proofs.shared.register_row_5.Reads as reads
-use Rattle.decoder.proofs.shared.register_row_5.Lts as lts
-
--- src/shared.rt:89:1
-returns : tie.Need-returns
-returns c = ?
-
--- src/shared.rt:89:1
-returns-2 : tie.Need-returns-2
-returns-2 c = ?
-
--- src/shared.rt:89:1
-returns-3 : tie.Need-returns-3
-returns-3 c = ?
-
--- src/shared.rt:89:1
-returns-4 : tie.Need-returns-4
-returns-4 c = ?
 
 pub register-row-5-spec : {M : Type 1} → statement M
-register-row-5-spec = tie.close (tie.spec returns returns-2 returns-3 returns-4)
+register-row-5-spec =
+    tie.close
+    (tie.spec
+    (λ c. rw (c .match .keys1))
+    (λ c. rw (c .match .keys2))
+    (λ c. rw (c .match .keys3))
+    (λ c. let s = c .before .args in other-columns (15 ∷ 12 ∷ 10 ∷ []) (registerRow5 (s .register) Blank Blank Blank Blank) [] refl (s .op) (s .size) (c .match .rest)))

@@ -1,19 +1,15 @@
+-- `decoder::shared::register_row_8` meets its contract.
+use mathlib.Core.Path.{refl}
+use mathlib.Core.List.{[], _∷_}
+use Rattle.stm8.specs.OpcodeMap.{Blank, registerRow8}
+use Rattle.decoder.proofs.Defaults.{other-columns}
 use Rattle.decoder.proofs.shared.register_row_8.Statement.{statement}
 use Rattle.decoder.proofs.shared.register_row_8.Tie as tie
-use Rattle.decoder.proofs.shared.register_row_8.Reads as reads
-use Rattle.decoder.proofs.shared.register_row_8.Lts as lts
-
--- src/shared.rt:101:1
-returns : tie.Need-returns
-returns c = ?
-
--- src/shared.rt:101:1
-returns-2 : tie.Need-returns-2
-returns-2 c = ?
-
--- src/shared.rt:101:1
-returns-3 : tie.Need-returns-3
-returns-3 c = ?
 
 pub register-row-8-spec : {M : Type 1} → statement M
-register-row-8-spec = tie.close (tie.spec returns returns-2 returns-3)
+register-row-8-spec =
+    tie.close
+    (tie.spec
+    (λ c. rw (c .match .keys1))
+    (λ c. rw (c .match .keys2))
+    (λ c. let s = c .before .args in other-columns (9 ∷ 5 ∷ []) (registerRow8 (s .register) Blank Blank Blank Blank) [] refl (s .op) (s .size) (c .match .rest)))

@@ -1,32 +1,18 @@
+-- `decoder::shared::register_row_9` meets its contract.
+use mathlib.Core.Path.{refl}
+use mathlib.Core.List.{[], _∷_}
+use Rattle.stm8.specs.OpcodeMap.{Blank, registerRow9}
+use Rattle.decoder.proofs.Defaults.{other-columns}
 use Rattle.decoder.proofs.shared.register_row_9.Statement.{statement}
 use Rattle.decoder.proofs.shared.register_row_9.Tie as tie
-use Rattle.decoder.proofs.shared.register_row_9.Reads as reads
-use Rattle.decoder.proofs.shared.register_row_9.Lts as lts
-
--- src/shared.rt:112:1
-returns : tie.Need-returns
-returns c = ?
-
--- src/shared.rt:112:1
-returns-2 : tie.Need-returns-2
-returns-2 c = ?
-
--- src/shared.rt:112:1
-returns-3 : tie.Need-returns-3
-returns-3 c = ?
-
--- src/shared.rt:112:1
-returns-4 : tie.Need-returns-4
-returns-4 c = ?
-
--- src/shared.rt:112:1
-returns-5 : tie.Need-returns-5
-returns-5 c = ?
-
--- src/shared.rt:112:1
-returns-6 : tie.Need-returns-6
-returns-6 c = ?
 
 pub register-row-9-spec : {M : Type 1} → statement M
 register-row-9-spec =
-    tie.close (tie.spec returns returns-2 returns-3 returns-4 returns-5 returns-6)
+    tie.close
+    (tie.spec
+    (λ c. rw (c .match .keys1))
+    (λ c. rw (c .match .keys2))
+    (λ c. rw (c .match .keys3))
+    (λ c. rw (c .match .keys4))
+    (λ c. rw (c .match .keys5))
+    (λ c. let s = c .before .args in other-columns (15 ∷ 14 ∷ 7 ∷ 5 ∷ 3 ∷ []) (registerRow9 (s .register) Blank Blank Blank Blank) [] refl (s .op) (s .size) (c .match .rest)))

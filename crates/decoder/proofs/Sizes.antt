@@ -1,0 +1,25 @@
+-- What the bytes on a page are, by the tests that its function makes: they have an op-code, and size is the length that a table has for it.
+use Prim.Native.Nat.{ℕ, _≤_, _<_}
+use mathlib.Core.Path.{_≡_}
+use mathlib.Core.List.{List}
+use native.Mathlib.Omega.{arith}
+use borrow.Author.Tests.{lt-leb, ne-eqb, lt-ltb, le-ltb}
+use lib.ListN.{getD, length}
+use Rattle.stm8.specs.OpcodeMap.{Page}
+use Rattle.stm8.specs.Decoding.{precodes, entryIn, foundAs, decodedIn}
+use Rattle.stm8.specs.declared.Decoded.{Decoded}
+use Rattle.stm8.specs.declared.Decoded.the-variants.{Outside, Truncated}
+
+module _ (page : Page) (s lengths : List ℕ) where
+  abbrev due : Decoded
+  due = decodedIn page (getD lengths (getD s (precodes page) 0) 0) s
+
+  module _ (opcode : precodes page < length s) {op size : ℕ} (at : op ≡ getD s (precodes page) 0) (looked-up : size ≡ getD lengths op 0) where
+    pub outside : size ≡ 0 → Outside ≡ due
+    outside none = rw (← at, ← looked-up, lt-leb (length s) (precodes page) opcode, none)
+
+    pub cut-short : (size ≡ 0 → ⊥) → length s < size → Truncated ≡ due
+    cut-short some short = rw (← at, ← looked-up, lt-leb (length s) (precodes page) opcode, ne-eqb size 0 some, lt-ltb (length s) size short)
+
+    pub whole : (size ≡ 0 → ⊥) → size ≤ length s → foundAs size (entryIn page s) ≡ due
+    whole some fits = rw (← at, ← looked-up, lt-leb (length s) (precodes page) opcode, ne-eqb size 0 some, le-ltb (length s) size fits)
