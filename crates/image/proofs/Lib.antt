@@ -1,4 +1,3 @@
 pub mod Measuring
-pub mod Validating
 pub mod Validity
 pub mod ValidLayout

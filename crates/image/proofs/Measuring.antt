@@ -1,18 +1,17 @@
 -- The length list of an image, and where its routines begin and end.
 use Prim.Native.Nat.{ℕ, _+_, _*_, _-_, _<_, _≤_}
-use mathlib.Core.Path.{_≡_, refl, sym, _∙_, ap}
+use mathlib.Core.Path.{_≡_, refl, _∙_, ap}
 use mathlib.Core.List.{List, map}
 use native.Mathlib.Omega.{arith}
-use lib.ListN.{length, getD, drop, List·getD-eq-default, List·getD-map, length-map, take, length-drop}
+use lib.ListN.{length, getD, List·getD-eq-default, List·getD-map, length-map, take, length-drop}
 use lib.Seq.{take-all, getD-drop}
-use Rattle.numbers.specs.Computed.{counting}
-use Rattle.numbers.specs.Checks.{first, under}
+use Rattle.numbers.specs.Checks.{first}
 use Rattle.numbers.specs.Folds.{total, firstIn}
 use Rattle.numbers.specs.Words.{wordAt}
 use Rattle.numbers.proofs.Computing.{mapped-length, mapped-at}
 use Rattle.numbers.proofs.Folding.{total-more, total-front, total-rises, firstIn-more}
 use Rattle.image.specs.Image.{countOf, lengthsOf, lengthAt, sizeOf, startOf, endOf, codeAt, codeOf}
-use Rattle.image.specs.Validation.{lengthsCheck}
+use Rattle.image.specs.Validation.{lengthCheck, lengthsCheck}
 
 module _ (image : List ℕ) where
   pub lengths-count : length (lengthsOf image) ≡ countOf image
@@ -59,21 +58,21 @@ module _ (image : List ℕ) where
 
   -- the check of the lengths before k
   pub lengthsBefore : ℕ → ℕ
-  lengthsBefore k = firstIn (take k (map (λ n. under n 1 4) (lengthsOf image)))
+  lengthsBefore k = firstIn (take k (map lengthCheck (lengthsOf image)))
 
   pub lengths-none : lengthsBefore 0 ≡ 0
   unfolding lengthsBefore firstIn
   lengths-none = refl
 
-  pub lengths-more : (k : ℕ) → k < countOf image → lengthsBefore (k + 1) ≡ first (lengthsBefore k) (under (lengthAt image k) 1 4)
+  pub lengths-more : (k : ℕ) → k < countOf image → lengthsBefore (k + 1) ≡ first (lengthsBefore k) (lengthCheck (lengthAt image k))
   unfolding lengthsBefore lengthAt
   lengths-more k h =
-      firstIn-more (map (λ n. under n 1 4) (lengthsOf image)) k (under 0 1 4) (omega (arith, lengths-count, length-map (lengthsOf image) (λ n. under n 1 4))) ∙
-      ap (first (lengthsBefore k)) (List·getD-map (λ n. under n 1 4) (lengthsOf image) k 0)
+      firstIn-more (map lengthCheck (lengthsOf image)) k (lengthCheck 0) (omega (arith, lengths-count, length-map (lengthsOf image) lengthCheck)) ∙
+      ap (first (lengthsBefore k)) (List·getD-map lengthCheck (lengthsOf image) k 0)
 
   pub lengths-all : lengthsBefore (countOf image) ≡ lengthsCheck image
   unfolding lengthsBefore lengthsCheck
-  lengths-all = ap firstIn (take-all (countOf image) (map (λ n. under n 1 4) (lengthsOf image)) (omega (arith, lengths-count, length-map (lengthsOf image) (λ n. under n 1 4))))
+  lengths-all = ap firstIn (take-all (countOf image) (map lengthCheck (lengthsOf image)) (omega (arith, lengths-count, length-map (lengthsOf image) lengthCheck)))
 
   -- a code byte, by its offset
   pub code-byte : (offset : ℕ) → getD (codeOf image) offset 0 ≡ getD image (codeAt image + offset) 0

@@ -1,11 +1,10 @@
 -- What holds of a valid layout: bounds for whoever indexes by it.
 use Prim.Native.Nat.{ℕ, _+_, _*_, _-_, _<_, _≤_}
 use mathlib.Core.Path.{_≡_, refl, subst, sym, _∙_}
-use mathlib.Core.Logic.{_⊎_}
 use mathlib.Core.List.{List}
 use native.Mathlib.Omega.{arith}
 use lib.ListN.{length}
-use Rattle.image.specs.Image.{baseOf, countOf, lengthAt, codeAt, codeOf, sizeOf, layoutOf, startOf, endOf, mainOf}
+use Rattle.image.specs.Image.{countOf, codeAt, codeOf, sizeOf, layoutOf, startOf, endOf, mainOf}
 use Rattle.image.specs.Validation.{validated}
 use Rattle.image.specs.Rules.{LimitsRules, ImageRules}
 use Rattle.image.specs.declared.Limits.{Limits}
@@ -16,44 +15,41 @@ use Rattle.image.proofs.Validity.{valid-layout, valid-rules}
 
 pub record ValidLayout (image : List ℕ) (layout : Layout) : Type 0 where
   pub is : layout ≡ layoutOf image
-  pub some : 1 ≤ layout .count
-  pub few : layout .count ≤ 32
-  pub follows : layout .code ≡ 8 + 2 * layout .count
-  pub whole : layout .code + layout .size ≡ length image
+  pub count : (1 ≤ layout .count) × (layout .count ≤ 32)
+  pub header : layout .code ≡ 8 + 2 * layout .count
+  pub end : layout .code + layout .size ≡ length image
   pub code : length (codeOf image) ≡ layout .size
-  pub least : 1 ≤ layout .size
-  pub most : layout .size ≤ 4096
+  pub size : (1 ≤ layout .size) × (layout .size ≤ 4096)
   pub base : 0x8000 ≤ layout .base
   pub top : layout .base + layout .size ≤ 0x10000
   -- a routine has a byte and lies inside the code, and main ends with the code
   pub begins : (k : ℕ) → k < layout .count → startOf image k < endOf image k
   pub ends : (k : ℕ) → k < layout .count → endOf image k ≤ layout .size
-  pub main : endOf image (layout .count - 1) ≡ layout .size
+  pub main : endOf image (mainOf image) ≡ layout .size
 
 module _ (image : List ℕ) where
   begins-before-end : ImageRules image → (k : ℕ) → k < countOf image → startOf image k < endOf image k
   unfolding endOf
   begins-before-end rules k h = omega (arith, rules .lengths k h)
 
-  main-ends : ImageRules image → endOf image (countOf image - 1) ≡ sizeOf image
+  main-ends : ImageRules image → endOf image (mainOf image) ≡ sizeOf image
+  unfolding mainOf
   main-ends rules =
-      let last : countOf image - 1 + 1 ≡ countOf image = omega (arith, rules .some) in
-      sym (start-next image (countOf image - 1) (omega (arith, rules .some))) ∙ rw last (start-count image)
+      let last : countOf image - 1 + 1 ≡ countOf image = omega (arith, rules .count .0) in
+      sym (start-next image (countOf image - 1) (omega (arith, rules .count .0))) ∙ rw last (start-count image)
 
   rules-layout : ImageRules image → ValidLayout image (layoutOf image)
   unfolding layoutOf codeAt
   rules-layout rules =
       let main = main-ends rules in
-      let inside = end-inside image 0 (omega (arith, rules .some)) in
+      let inside = end-inside image 0 (omega (arith, rules .count .0)) in
       record {
         is = refl;
-        some = rules .some;
-        few = rules .few;
-        follows = refl;
-        whole = sym (rules .whole);
-        code = code-length image ∙ omega (arith, rules .whole);
-        least = omega (arith, begins-before-end rules 0 (rules .some), inside);
-        most = rules .code;
+        count = rules .count;
+        header = refl;
+        end = sym (rules .end);
+        code = code-length image ∙ omega (arith, rules .end);
+        size = (omega (arith, begins-before-end rules 0 (rules .count .0), inside), rules .code);
         base = rules .base;
         top = rules .top;
         begins = begins-before-end rules;

@@ -1,27 +1,27 @@
 -- An image and limits are valid exactly when document 01's rules hold of them.
-use Prim.Native.Nat.{ℕ, suc, _+_, _<_, _≤_}
+use Prim.Native.Nat.{ℕ, _<_, _≤_}
 use mathlib.Core.Path.{_≡_, refl, sym, _∙_, ap}
 use mathlib.Core.Logic.{_⊎_, inl, inr, ⊎-elim, ⊎-map, _↔_}
 use mathlib.Core.Bool.{Bool, true, false, cond, true≢false}
-use mathlib.Core.List.{List, [], _∷_}
+use mathlib.Core.List.{List}
 use native.Mathlib.Omega.{arith}
 use lib.Dec.{eqb, ltb}
-use lib.ListN.{length, getD, take}
-use borrow.Author.Tests.{eqb-true, eqb-false, ltb-true, ltb-false, lt-ltb}
-use Rattle.numbers.specs.Checks.{both, under, unless, differ}
-use Rattle.numbers.proofs.Checking.{by-cond, under-zero, under-pass, differ-zero, differ-pass}
+use lib.ListN.{length, take}
+use borrow.Author.Tests.{eqb-true, ltb-true, ltb-false, lt-ltb}
+use Rattle.numbers.specs.Ascii.{ascii}
+use Rattle.numbers.specs.Checks.{both, unless, differ}
 use Rattle.numbers.specs.Folds.{firstIn}
+use Rattle.numbers.proofs.Checking.{by-cond, under-zero, under-pass, differ-zero, differ-pass, unless-zero, unless-pass}
 use Rattle.numbers.proofs.Folding.{passed, passed-at, pass-at, _&_}
-use Rattle.image.specs.Image.{mark, versionOf, baseOf, countOf, lengthsOf, lengthAt, codeAt, sizeOf, layoutOf}
-use Rattle.image.specs.Validation.{areaCheck, apartCheck, limitsCheck, markCheck, versionCheck, lengthsCheck, layoutCheck, refusal, answer, validated, validationNumber}
+use Rattle.numbers.proofs.Comparing.{same-refl, same-true}
+use Rattle.image.specs.Image.{countOf, lengthsOf, lengthAt, codeAt, layoutOf}
+use Rattle.image.specs.Validation.{areaCheck, apartCheck, limitsCheck, markCheck, versionCheck, lengthCheck, lengthsCheck, layoutCheck, refusal, validated, validationNumber}
 use Rattle.image.specs.Rules.{Within, AreaRules, LimitsRules, ImageRules}
 use Rattle.image.specs.declared.Area.{Area}
 use Rattle.image.specs.declared.Limits.{Limits}
 use Rattle.image.specs.declared.Layout.{Layout}
-use Rattle.image.specs.declared.Validated.{Validated}
 use Rattle.image.specs.declared.Validated.the-variants.{Refused, Valid}
 use Rattle.image.proofs.Measuring.{lengths-count}
-use Rattle.image.proofs.Validating.{three}
 
 module _ (area : Area) where
   area-rules : areaCheck area ≡ 0 → AreaRules area
@@ -80,7 +80,7 @@ module _ (limits : Limits) where
       record {
         grant = area-rules (limits .grant) (p .0);
         stack = area-rules (limits .stack) (p .1 .0);
-        room = under-zero _ _ 0 (p .1 .1 .0);
+        stackLow = under-zero _ _ 0 (p .1 .1 .0);
         apart = apart-rule (limits .grant) (limits .stack) (p .1 .1 .1 .0);
       }
 
@@ -90,36 +90,25 @@ module _ (limits : Limits) where
   limits-pass : LimitsRules limits → limitsCheck limits ≡ 0
   unfolding limitsCheck firstIn
   limits-pass h =
-      area-pass (limits .grant) (h .grant) & area-pass (limits .stack) (h .stack) & under-pass _ _ 1 (h .room) &
+      area-pass (limits .grant) (h .grant) & area-pass (limits .stack) (h .stack) & under-pass _ _ 1 (h .stackLow) &
       apart-pass (limits .grant) (limits .stack) (limits-ends h) & refl
 
 module _ (image : List ℕ) where
-  mark-rule : markCheck image ≡ 0 → take 3 image ≡ mark
+  mark-rule : markCheck image ≡ 0 → take 3 image ≡ ascii "SLU"
   unfolding markCheck
-  mark-rule e =
-      let p = passed _ e in
-      let long : 3 ≤ length image = omega (arith, under-zero (length image) 8 1 (p .0)) in
-      let a : getD image 0 0 ≡ 0x53 = differ-zero _ _ 1 (p .1 .0) in
-      let b : getD image 1 0 ≡ 0x4C = differ-zero _ _ 1 (p .1 .1 .0) in
-      let c : getD image 2 0 ≡ 0x55 = differ-zero _ _ 1 (p .1 .1 .1 .0) in
-      three image long ∙ rw (a, b, c)
+  mark-rule e = same-true _ _ (unless-zero _ 1 (passed _ e .1 .0))
 
-  mark-pass : 8 ≤ length image → take 3 image ≡ mark → markCheck image ≡ 0
+  mark-pass : 8 ≤ length image → take 3 image ≡ ascii "SLU" → markCheck image ≡ 0
   unfolding markCheck firstIn
-  mark-pass long e =
-      let whole = sym (three image (omega arith)) ∙ e in
-      let a : getD image 0 0 ≡ 0x53 = cc in
-      let b : getD image 1 0 ≡ 0x4C = cc in
-      let c : getD image 2 0 ≡ 0x55 = cc in
-      under-pass _ _ 2 long & differ-same _ _ 2 a & differ-same _ _ 2 b & differ-same _ _ 2 c & refl
+  mark-pass long e = under-pass _ _ 2 long & rw (e, same-refl) (unless-pass 2) & refl
 
   lengths-rule : lengthsCheck image ≡ 0 → (k : ℕ) → k < countOf image → 1 ≤ lengthAt image k
-  unfolding lengthsCheck lengthAt
-  lengths-rule e k h = under-zero _ _ 3 (passed-at (λ n. under n 1 4) (lengthsOf image) e k (omega (arith, lengths-count image)))
+  unfolding lengthsCheck lengthCheck lengthAt
+  lengths-rule e k h = under-zero _ _ 3 (passed-at lengthCheck (lengthsOf image) e k (omega (arith, lengths-count image)))
 
   lengths-pass : ((k : ℕ) → k < countOf image → 1 ≤ lengthAt image k) → lengthsCheck image ≡ 0
-  unfolding lengthsCheck lengthAt
-  lengths-pass h = pass-at (λ n. under n 1 4) (lengthsOf image) (λ k below. under-pass _ _ 4 (h k (omega (arith, lengths-count image))))
+  unfolding lengthsCheck lengthCheck lengthAt
+  lengths-pass h = pass-at lengthCheck (lengthsOf image) (λ k below. under-pass _ _ 4 (h k (omega (arith, lengths-count image))))
 
   image-rules : markCheck image ≡ 0 → versionCheck image ≡ 0 → layoutCheck image ≡ 0 → ImageRules image
   unfolding versionCheck layoutCheck
@@ -129,13 +118,12 @@ module _ (image : List ℕ) where
       record {
         mark = mark-rule m;
         version = differ-zero _ _ 2 v;
-        some = under-zero _ _ 3 (p .0);
-        few = under-zero _ _ 3 (p .1 .0);
+        count = (under-zero _ _ 3 (p .0), under-zero _ _ 3 (p .1 .0));
         lengths = lengths-rule (p .1 .1 .0);
         code = under-zero _ _ 3 (q .0);
         base = under-zero _ _ 3 (q .1 .0);
         top = under-zero _ _ 3 (q .1 .1 .0);
-        whole = differ-zero _ _ 3 (q .1 .1 .1 .0);
+        end = differ-zero _ _ 3 (q .1 .1 .1 .0);
       }
 
   version-pass : ImageRules image → versionCheck image ≡ 0
@@ -145,13 +133,13 @@ module _ (image : List ℕ) where
   layout-pass : ImageRules image → layoutCheck image ≡ 0
   unfolding layoutCheck firstIn
   layout-pass h =
-      under-pass _ _ 4 (h .some) & under-pass _ _ 4 (h .few) & lengths-pass (h .lengths) & under-pass _ _ 4 (h .code) &
-      under-pass _ _ 4 (h .base) & under-pass _ _ 4 (h .top) & differ-same _ _ 4 (h .whole) & refl
+      under-pass _ _ 4 (h .count .0) & under-pass _ _ 4 (h .count .1) & lengths-pass (h .lengths) & under-pass _ _ 4 (h .code) &
+      under-pass _ _ 4 (h .base) & under-pass _ _ 4 (h .top) & differ-same _ _ 4 (h .end) & refl
 
   -- an image that follows the rules has its header
   header-whole : ImageRules image → 8 ≤ length image
   unfolding codeAt
-  header-whole h = omega (arith, h .whole)
+  header-whole h = omega (arith, h .end)
 
 module _ (image : List ℕ) (limits : Limits) where
   -- document 01's number of what validating gives

@@ -1,8 +1,7 @@
--- An image and its limits, as document 01 lays them out. Numbers stand high byte first.
+-- An image and the limits, as document 01 lays them out. Numbers stand high byte first.
 use Prim.Native.Nat.{ℕ, _+_, _*_, _-_}
 use mathlib.Core.List.{List, map}
 use lib.ListN.{getD, take, drop}
-use Rattle.numbers.specs.Ascii.{ascii}
 use Rattle.numbers.specs.Computed.{counting}
 use Rattle.numbers.specs.Folds.{total}
 use Rattle.numbers.specs.Words.{wordAt}
@@ -10,23 +9,19 @@ use Rattle.image.specs.declared.Area.{Area}
 use Rattle.image.specs.declared.Limits.{Limits}
 use Rattle.image.specs.declared.Layout.{Layout}
 
--- the three letters SLU
-abbrev pub mark : List ℕ
-mark = ascii "SLU"
-
--- then version
+-- After the three letters SLU: version,
 unfoldable pub versionOf : List ℕ → ℕ
 versionOf image = wordAt image 3
 
--- base (16 bits)
+-- base (16 bits),
 unfoldable pub baseOf : List ℕ → ℕ
 baseOf image = wordAt image 5
 
--- routine count (8 bits)
+-- routine count (8 bits),
 unfoldable pub countOf : List ℕ → ℕ
 countOf image = getD image 7 0
 
--- one 16-bit length per routine
+-- one 16-bit length per routine,
 unfoldable pub lengthsOf : List ℕ → List ℕ
 lengthsOf image = map (λ k. wordAt image (8 + 2 * k)) (counting (countOf image) 0)
 
@@ -34,7 +29,7 @@ lengthsOf image = map (λ k. wordAt image (8 + 2 * k)) (counting (countOf image)
 unfoldable pub lengthAt : List ℕ → ℕ → ℕ
 lengthAt image k = getD (lengthsOf image) k 0
 
--- and the code: the index of its first byte, its bytes, and how many the routines have together
+-- and the code: the index of its first byte, its bytes, and how many the routines have together.
 unfoldable pub codeAt : List ℕ → ℕ
 codeAt image = 8 + 2 * countOf image
 
@@ -47,7 +42,7 @@ sizeOf image = total (lengthsOf image)
 unfoldable pub layoutOf : List ℕ → Layout
 layoutOf image = record { base = baseOf image; count = countOf image; code = codeAt image; size = sizeOf image }
 
--- Routines lie in table order: where routine k begins, and where the next one would, as offsets from the first code byte.
+-- Routines lie in table order: where routine k begins and ends, as offsets from the first code byte;
 unfoldable pub startOf : List ℕ → ℕ → ℕ
 startOf image k = total (take k (lengthsOf image))
 

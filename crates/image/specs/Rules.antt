@@ -3,11 +3,12 @@ use Prim.Native.Nat.{ℕ, _+_, _<_, _≤_}
 use mathlib.Core.Path.{_≡_}
 use mathlib.Core.List.{List}
 use lib.ListN.{length, take}
-use Rattle.image.specs.Image.{mark, versionOf, baseOf, countOf, lengthAt, codeAt, sizeOf}
+use Rattle.numbers.specs.Ascii.{ascii}
+use Rattle.image.specs.Image.{versionOf, baseOf, countOf, lengthAt, codeAt, sizeOf}
 use Rattle.image.specs.declared.Area.{Area}
 use Rattle.image.specs.declared.Limits.{Limits}
 
--- ends included
+-- an address lies in an area, ends included
 pub record Within (area : Area) (address : ℕ) : Type 0 where
   pub above : area .low ≤ address
   pub below : address ≤ area .high
@@ -22,18 +23,17 @@ pub record AreaRules (area : Area) : Type 0 where
 pub record LimitsRules (limits : Limits) : Type 0 where
   pub grant : AreaRules (limits .grant)
   pub stack : AreaRules (limits .stack)
-  pub room : 1 ≤ limits .stack .low
+  pub stackLow : 1 ≤ limits .stack .low
   pub apart : (address : ℕ) → Within (limits .grant) address → Within (limits .stack) address → ⊥
 
 -- the three letters SLU, then version 0001; count is 1 to 32, each length at least 1, code at most 4,096 bytes, base at least 8000,
 -- base plus code at most 10000; the file ends with the code
 pub record ImageRules (image : List ℕ) : Type 0 where
-  pub mark : take 3 image ≡ mark
+  pub mark : take 3 image ≡ ascii "SLU"
   pub version : versionOf image ≡ 0x0001
-  pub some : 1 ≤ countOf image
-  pub few : countOf image ≤ 32
+  pub count : (1 ≤ countOf image) × (countOf image ≤ 32)
   pub lengths : (k : ℕ) → k < countOf image → 1 ≤ lengthAt image k
   pub code : sizeOf image ≤ 4096
   pub base : 0x8000 ≤ baseOf image
   pub top : baseOf image + sizeOf image ≤ 0x10000
-  pub whole : length image ≡ codeAt image + sizeOf image
+  pub end : length image ≡ codeAt image + sizeOf image

@@ -3,9 +3,11 @@ use Prim.Native.Nat.{ℕ, _+_}
 use mathlib.Core.Bool.{cond}
 use mathlib.Core.List.{List, [], _∷_, map}
 use lib.Dec.{eqb, ltb}
-use lib.ListN.{length, getD}
+use lib.ListN.{length, take}
+use Rattle.numbers.specs.Ascii.{ascii}
 use Rattle.numbers.specs.Checks.{both, under, unless, differ}
 use Rattle.numbers.specs.Folds.{firstIn}
+use Rattle.numbers.specs.Lists.{same}
 use Rattle.image.specs.Image.{versionOf, baseOf, countOf, lengthsOf, codeAt, sizeOf, layoutOf}
 use Rattle.image.specs.declared.Area.{Area}
 use Rattle.image.specs.declared.Limits.{Limits}
@@ -13,7 +15,7 @@ use Rattle.image.specs.declared.Layout.{Layout}
 use Rattle.image.specs.declared.Validated.{Validated}
 use Rattle.image.specs.declared.Validated.the-variants.{Refused, Valid}
 
--- 1, limits break a rule: low is not above high, all are at most 7FFF,
+-- 1, limits break a rule. Of an area: low is not above high, all are at most 7FFF.
 unfoldable pub areaCheck : Area → ℕ
 areaCheck area =
     firstIn
@@ -22,11 +24,11 @@ areaCheck area =
     under 0x7FFF (area .high) 1 ∷
     [])
 
--- the areas don't meet, so one ends before the other begins,
+-- The areas don't meet: one ends before the other begins.
 unfoldable pub apartCheck : Area → Area → ℕ
 apartCheck a b = both (unless (ltb (a .high) (b .low)) 1) (unless (ltb (b .high) (a .low)) 1)
 
--- stack low is at least 1
+-- Of both areas: stack low is at least 1, and they don't meet.
 unfoldable pub limitsCheck : Limits → ℕ
 limitsCheck limits =
     firstIn
@@ -36,25 +38,22 @@ limitsCheck limits =
     apartCheck (limits .grant) (limits .stack) ∷
     [])
 
--- 2, under 8 bytes, or not SLU (53 4C 55)
+-- 2, under 8 bytes, or not SLU.
 unfoldable pub markCheck : List ℕ → ℕ
-markCheck image =
-    firstIn
-    (under (length image) 8 2 ∷
-    differ (getD image 0 0) 0x53 2 ∷
-    differ (getD image 1 0) 0x4C 2 ∷
-    differ (getD image 2 0) 0x55 2 ∷
-    [])
+markCheck image = firstIn (under (length image) 8 2 ∷ unless (same (take 3 image) (ascii "SLU")) 2 ∷ [])
 
--- 3, version not 0001
+-- 3, version not 0001.
 unfoldable pub versionCheck : List ℕ → ℕ
 versionCheck image = differ (versionOf image) 0x0001 3
 
--- 4, other layout rule: each length at least 1
-unfoldable pub lengthsCheck : List ℕ → ℕ
-lengthsCheck image = firstIn (map (λ n. under n 1 4) (lengthsOf image))
+-- 4, other layout rule. Each length is at least 1.
+unfoldable pub lengthCheck : ℕ → ℕ
+lengthCheck n = under n 1 4
 
--- count is 1 to 32, code at most 4,096 bytes, base at least 8000, base plus code at most 10000, and the file ends with the code
+unfoldable pub lengthsCheck : List ℕ → ℕ
+lengthsCheck image = firstIn (map lengthCheck (lengthsOf image))
+
+-- Count is 1 to 32, code at most 4,096 bytes, base at least 8000, base plus code at most 10000. The file ends with the code.
 unfoldable pub layoutCheck : List ℕ → ℕ
 layoutCheck image =
     firstIn
@@ -67,10 +66,11 @@ layoutCheck image =
     differ (length image) (codeAt image + sizeOf image) 4 ∷
     [])
 
--- the number of the first rule that is broken, 0 where none is
+-- Order: 1 to 4. 0 where no rule is broken.
 unfoldable pub refusal : List ℕ → Limits → ℕ
 refusal image limits = firstIn (limitsCheck limits ∷ markCheck image ∷ versionCheck image ∷ layoutCheck image ∷ [])
 
+-- the layout where no rule is broken, else the refusal
 abbrev pub answer : ℕ → Layout → Validated
 answer number layout = cond (eqb number 0) (Valid layout) (Refused number)
 

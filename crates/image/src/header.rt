@@ -45,6 +45,7 @@ pub fn routine_length(image: &[u8], k: usize) -> u16
     }
 }
 
+// The sum of 255 lengths passes 16 bits, and not 24.
 pub fn lengths_check(image: &[u8]) -> CheckedLengths
     ensures { λ r. ⌜ r .total ≡ sizeOf (now (image .entry)) ⌝ }
     ensures { λ r. ⌜ r .refusal ≡ lengthsCheck (now (image .entry)) ⌝ }
@@ -63,6 +64,7 @@ pub fn lengths_check(image: &[u8]) -> CheckedLengths
     CheckedLengths { total, refusal }
 }
 
+// The layout and its check, from one look at the length list.
 pub fn layout_check(image: &[u8]) -> CheckedLayout
     ensures { λ r. ⌜ r .layout ≡ layoutOf (now (image .entry)) ⌝ }
     ensures { λ r. ⌜ r .refusal ≡ layoutCheck (now (image .entry)) ⌝ }

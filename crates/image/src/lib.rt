@@ -7,7 +7,7 @@ pub use access::granted;
 pub use areas::limits_of;
 pub use header::routine_length;
 ghost use mathlib.Core.Path.{_≡_};
-ghost use Rattle.image.specs.Validation.{answer as answerOf, validated};
+ghost use Rattle.image.specs.Validation.{answer as answerOf, validated, validationNumber};
 use numbers::checks::differ;
 use numbers::checks::first;
 use numbers::words::word_at;
@@ -18,6 +18,7 @@ pub struct Area {
     pub high: u16,
 }
 
+// Where a gate routine may store directly, and its stack.
 pub struct Limits {
     pub grant: Area,
     pub stack: Area,
@@ -36,6 +37,7 @@ pub enum Validated {
     Valid(Layout),
 }
 
+// The layout where no rule is broken, else the refusal.
 fn answer(refusal: u8, layout: Layout) -> Validated
     ensures { λ r. ⌜ r ≡ answerOf refusal layout ⌝ }
 {
@@ -46,7 +48,7 @@ fn answer(refusal: u8, layout: Layout) -> Validated
     }
 }
 
-// The number of the first rule that is broken, in document 01's order, or the layout.
+// The refusal of the first rule that is broken, in document 01's order, or the layout.
 pub fn validate(image: &[u8], limits: Limits) -> Validated
     ensures { λ r. ⌜ r ≡ validated (now (image .entry)) limits ⌝ }
 {
@@ -56,4 +58,14 @@ pub fn validate(image: &[u8], limits: Limits) -> Validated
     let checked = header::layout_check(image);
     let refusal = first(first(limits_refusal, mark_refusal), version_refusal);
     answer(first(refusal, checked.refusal), checked.layout)
+}
+
+// Document 01's number of an answer, 0 where nothing is refused.
+pub fn validation_number(validated: Validated) -> u8
+    ensures { λ r. ⌜ r ≡ validationNumber validated ⌝ }
+{
+    match validated {
+        Validated::Refused(number) => number,
+        Validated::Valid(_) => 0,
+    }
 }

@@ -2,7 +2,6 @@
 ghost use mathlib.Core.Path.{_≡_};
 ghost use Prim.Native.Nat.{_+_, _≤_};
 ghost use lib.ListN.{length};
-use image::Validated;
 use libc::STDOUT_FILENO;
 
 // grant 0000-00FF, stack 0300-03FF
@@ -28,13 +27,10 @@ fn case(label: &[u8], limits: &[u8], header: &[u8], code: usize)
 {
     let bytes = with_zeros(header);
     let end = header.len() + code;
-    let number = match image::validate(&bytes[..end], image::limits_of(limits)) {
-        Validated::Refused(number) => number,
-        Validated::Valid(_) => 0,
-    };
+    let validated = image::validate(&bytes[..end], image::limits_of(limits));
     io::write_all(STDOUT_FILENO, label);
     io::write_all(STDOUT_FILENO, b": ");
-    io::print_decimal(STDOUT_FILENO, number as u64);
+    io::print_decimal(STDOUT_FILENO, image::validation_number(validated) as u64);
     io::write_all(STDOUT_FILENO, b"\n");
 }
 

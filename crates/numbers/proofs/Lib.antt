@@ -1,4 +1,5 @@
 pub mod Checking
+pub mod Comparing
 pub mod Computing
 pub mod Folding
 pub mod Wording

@@ -3,4 +3,5 @@ pub mod Bits
 pub mod Checks
 pub mod Computed
 pub mod Folds
+pub mod Lists
 pub mod Words

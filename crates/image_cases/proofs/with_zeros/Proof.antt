@@ -2,7 +2,7 @@
 use Prim.Native.Nat.{_≤_, _-_}
 use mathlib.Core.Path.{_≡_}
 use native.Mathlib.Omega.{arith}
-use lib.ListN.{length, length-replicate, length-set}
+use lib.ListN.{length}
 use borrow.Author.Needs.{needs}
 use Rattle.image_cases.proofs.with_zeros.Statement.{statement}
 use Rattle.image_cases.proofs.with_zeros.Tie as tie

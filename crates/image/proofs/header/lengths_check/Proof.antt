@@ -5,6 +5,7 @@ use mathlib.Core.Path.{_≡_, _∙_, sym, ap}
 use native.Mathlib.Omega.{arith}
 use denote.Ref.{now}
 use Rattle.image.specs.Image.{countOf, startOf, endOf}
+use Rattle.image.specs.Validation.{lengthCheck}
 use Rattle.image.proofs.Measuring.{start-zero, start-next, start-count, lengthsBefore, lengths-none, lengths-more, lengths-all}
 use Rattle.image.proofs.header.lengths_check.Statement.{statement}
 use Rattle.image.proofs.header.lengths_check.Tie as tie
@@ -22,7 +23,7 @@ loop-holds c =
     (omega arith, omega arith, sym (start-zero image), sym (lengths-none image))
 
 loop-again : tie.Need-loop-again Inv-loop μ-loop
-unfolding endOf countOf
+unfolding endOf countOf lengthCheck
 loop-again c =
     let c2 = c .before .before in
     let c4 = c2 .before .before in

@@ -1,6 +1,6 @@
--- `image::header::mark_check` meets its contract: what `same` says of the first three bytes, said of each.
+-- `image::header::mark_check` meets its contract.
 use Prim.Native.Nat.{_≤_}
-use mathlib.Core.Path.{_∙_}
+use mathlib.Core.Path.{sym}
 use native.Mathlib.Omega.{arith}
 use denote.Ref.{now}
 use lib.ListN.{length}
@@ -8,8 +8,10 @@ use lib.Seq.{length-take-le}
 use borrow.Author.Tests.{lt-ltb}
 use Rattle.numbers.specs.Checks.{first, under}
 use Rattle.numbers.specs.Folds.{firstIn}
+use Rattle.numbers.proofs.Checking.{first-pass, under-pass}
+use Rattle.numbers.proofs.Folding.{first-none}
+use Rattle.numbers.proofs.Comparing.{same-is}
 use Rattle.image.specs.Validation.{markCheck}
-use Rattle.image.proofs.Validating.{mark-checked}
 use borrow.Author.Needs.{needs}
 use Rattle.image.proofs.header.mark_check.Statement.{statement}
 use Rattle.image.proofs.header.mark_check.Tie as tie
@@ -22,10 +24,11 @@ slice-aggregate-same : tie.Need-slice-aggregate-same
 slice-aggregate-same c = let long : 3 ≤ length (now (c .before .before .before .args .image)) = omega arith in simp length-take-le
 
 returns-2 : tie.Need-returns-2
+unfolding firstIn markCheck
 returns-2 c =
-    let same = c .before .same in
+    let equal = c .before .same in
     let c4 = c .before .before .before .before in
-    c .unless .ensures ∙ mark-checked (now (c4 .before .before .args .image)) (same .result) (c4 .if1 .left) (same .ensures .0) (same .ensures .1)
+    rw (c .unless .ensures, same-is (equal .result) _ _ (equal .ensures .0) (equal .ensures .1), under-pass _ _ 2 (c4 .if1 .left), first-pass) (sym (first-none _))
 
 pub mark-check-spec : {M : Type 1} → statement M
 mark-check-spec =
