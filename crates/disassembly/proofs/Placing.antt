@@ -1,0 +1,24 @@
+-- A text in a buffer that has room for it, and in one that has not.
+use Prim.Native.Nat.{ℕ, _≤_, _<_}
+use mathlib.Core.Path.{_≡_}
+use mathlib.Core.List.{List, _++_}
+use borrow.Author.Tests.{lt-ltb, le-ltb}
+use lib.ListN.{length, take, drop}
+use lib.Seq.{take-length}
+use Rattle.disassembly.specs.Notation.{placed}
+use Rattle.disassembly.specs.declared.Written.the-variants.{Bytes, TooShort}
+
+pub placed-short : (s buffer : List ℕ) → length buffer < length s → placed s buffer ≡ (TooShort, buffer)
+unfolding placed
+placed-short s buffer h = rw (lt-ltb (length buffer) (length s) h)
+
+pub placed-fits : (s buffer : List ℕ) → length s ≤ length buffer → placed s buffer ≡ (Bytes (length s), s ++ drop (length s) buffer)
+unfolding placed
+placed-fits s buffer h = rw (le-ltb (length buffer) (length s) h)
+
+-- a copy of the part of n bytes that is the text
+pub placed-copy : (s part buffer : List ℕ) (n : ℕ) → n ≡ length s → part ≡ s → n ≤ length buffer →
+    placed s buffer ≡ (Bytes n, take (length part) part ++ drop (length part) buffer)
+placed-copy s part buffer n size start h =
+    let room : length s ≤ length buffer = rw size at h in
+    rw (start, size, take-length s) (placed-fits s buffer room)

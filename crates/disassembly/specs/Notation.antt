@@ -1,0 +1,128 @@
+-- The text of an instruction in the manual's assembler column notation, as document 01 words it: the names, no space but the one after the name;
+-- upper-case hexadecimal, two digits for a byte and four for a word, after $; immediates after #$; a bit position as # and one digit; jumps
+-- and calls as $ and the four-digit target.
+use Prim.Native.Nat.{ℕ, _+_, _/_, _%_}
+use mathlib.Core.List.{List, [], _∷_, _++_}
+use mathlib.Core.Bool.{cond}
+use lib.Dec.{ltb}
+use lib.ListN.{length, getD, drop}
+use Rattle.numbers.specs.Ascii.{ascii}
+use Rattle.numbers.specs.Words.{high, low}
+use Rattle.stm8.specs.Encoding.{bytesOf}
+use Rattle.stm8.specs.declared.Register.{Register}
+use Rattle.stm8.specs.declared.Register.the-variants.{X, Y}
+use Rattle.stm8.specs.declared.Half.{Half}
+use Rattle.stm8.specs.declared.Half.the-variants.{Low, High}
+use Rattle.stm8.specs.declared.Offset.{Offset}
+use Rattle.stm8.specs.declared.Offset.the-variants.{Zero, Byte, Word}
+use Rattle.stm8.specs.declared.Operand.{Operand}
+use Rattle.stm8.specs.declared.Operand.the-variants.{Accumulator, Immediate, ImmediateWord, Short, Long, Indexed, Sp}
+use Rattle.stm8.specs.declared.Instruction.{Instruction}
+use Rattle.stm8.specs.declared.Instruction.the-variants.{Alu, Store, LoadHalf, StoreHalf, Modify, LoadWord, StoreWord, CopyWord, WordAlu, WordModify, Pushw, Popw, Exgw, Mul, Bit, BitJump, Mov, Push, Pop, SubSp, AddSp, Jump, Call, Callr, Ret, Nop, Flag}
+use Rattle.disassembly.specs.Names.{aluName, modifyName, wordAluName, wordModifyName, bitName, testName, conditionName, flagName}
+use Rattle.disassembly.specs.declared.Written.{Written}
+use Rattle.disassembly.specs.declared.Written.the-variants.{Bytes, TooShort}
+
+-- the last hexadecimal digit of a number; the two of a byte and the four of a word
+unfoldable pub digit : ℕ → ℕ
+digit n = getD (ascii "0123456789ABCDEF") (n % 16) 0
+
+abbrev pub byteDigits : ℕ → List ℕ
+byteDigits n = digit (n / 16) ∷ digit n ∷ []
+
+abbrev pub wordDigits : ℕ → List ℕ
+wordDigits w = byteDigits (high w) ++ byteDigits (low w)
+
+abbrev pub byte : ℕ → List ℕ
+byte n = ascii "$" ++ byteDigits n
+
+abbrev pub word : ℕ → List ℕ
+word w = ascii "$" ++ wordDigits w
+
+abbrev pub bitPosition : ℕ → List ℕ
+bitPosition n = ascii "#" ++ (digit n ∷ [])
+
+abbrev pub register : Register → List ℕ
+register X = ascii "X"
+register Y = ascii "Y"
+
+abbrev pub other : Register → List ℕ
+other X = ascii "Y"
+other Y = ascii "X"
+
+abbrev pub half : Register → Half → List ℕ
+half r Low = register r ++ ascii "L"
+half r High = register r ++ ascii "H"
+
+-- an offset in front of its register
+abbrev pub offset : Offset → List ℕ
+offset Zero = []
+offset (Byte n) = byte n ++ ascii ","
+offset (Word w) = word w ++ ascii ","
+
+abbrev pub operand : Operand → List ℕ
+operand Accumulator = ascii "A"
+operand (Immediate n) = ascii "#" ++ byte n
+operand (ImmediateWord w) = ascii "#" ++ word w
+operand (Short a) = byte a
+operand (Long a) = word a
+operand (Indexed r f) = ascii "(" ++ offset f ++ register r ++ ascii ")"
+operand (Sp n) = ascii "(" ++ byte n ++ ascii ",SP)"
+
+-- the operands after a name: a space before the first, a comma before each other
+abbrev pub others : List (List ℕ) → List ℕ
+others [] = []
+others (x ∷ xs) = ascii "," ++ x ++ others xs
+
+abbrev pub operands : List (List ℕ) → List ℕ
+operands [] = []
+operands (x ∷ xs) = ascii " " ++ x ++ others xs
+
+abbrev pub line : List ℕ → List (List ℕ) → List ℕ
+line name xs = name ++ operands xs
+
+-- an offset of -128 to 127 as a word
+unfoldable pub extended : ℕ → ℕ
+extended n = cond (ltb n 128) n (0xff00 + n)
+
+-- the target of a relative jump or call: its offset counts from the address of the next instruction
+unfoldable pub target : ℕ → ℕ → ℕ
+target next n = (next + extended n) % 0x10000
+
+-- the text of an instruction before the address `next`
+abbrev pub textBefore : ℕ → Instruction → List ℕ
+textBefore next (Alu o x) = line (aluName o) (ascii "A" ∷ operand x ∷ [])
+textBefore next (Store x) = line (ascii "LD") (operand x ∷ ascii "A" ∷ [])
+textBefore next (LoadHalf r h) = line (ascii "LD") (ascii "A" ∷ half r h ∷ [])
+textBefore next (StoreHalf r h) = line (ascii "LD") (half r h ∷ ascii "A" ∷ [])
+textBefore next (Modify o x) = line (modifyName o) (operand x ∷ [])
+textBefore next (LoadWord r x) = line (ascii "LDW") (register r ∷ operand x ∷ [])
+textBefore next (StoreWord r x) = line (ascii "LDW") (operand x ∷ register r ∷ [])
+textBefore next (CopyWord r) = line (ascii "LDW") (register r ∷ other r ∷ [])
+textBefore next (WordAlu o r w) = line (wordAluName o) (register r ∷ operand (ImmediateWord w) ∷ [])
+textBefore next (WordModify o r) = line (wordModifyName o) (register r ∷ [])
+textBefore next (Pushw r) = line (ascii "PUSHW") (register r ∷ [])
+textBefore next (Popw r) = line (ascii "POPW") (register r ∷ [])
+textBefore next Exgw = line (ascii "EXGW") (ascii "X" ∷ ascii "Y" ∷ [])
+textBefore next (Mul r) = line (ascii "MUL") (register r ∷ ascii "A" ∷ [])
+textBefore next (Bit o n w) = line (bitName o) (operand (Long w) ∷ bitPosition n ∷ [])
+textBefore next (BitJump o n w j) = line (testName o) (operand (Long w) ∷ bitPosition n ∷ word (target next j) ∷ [])
+textBefore next (Mov to from) = line (ascii "MOV") (operand to ∷ operand from ∷ [])
+textBefore next (Push x) = line (ascii "PUSH") (operand x ∷ [])
+textBefore next (Pop x) = line (ascii "POP") (operand x ∷ [])
+textBefore next (SubSp n) = line (ascii "SUB") (ascii "SP" ∷ operand (Immediate n) ∷ [])
+textBefore next (AddSp n) = line (ascii "ADDW") (ascii "SP" ∷ operand (Immediate n) ∷ [])
+textBefore next (Jump o n) = line (conditionName o) (word (target next n) ∷ [])
+textBefore next (Call w) = line (ascii "CALL") (word w ∷ [])
+textBefore next (Callr n) = line (ascii "CALLR") (word (target next n) ∷ [])
+textBefore next Ret = line (ascii "RET") []
+textBefore next Nop = line (ascii "NOP") []
+textBefore next (Flag o) = line (flagName o) []
+
+-- the text of an instruction at an address
+unfoldable pub text : ℕ → Instruction → List ℕ
+text address i = textBefore (address + length (bytesOf i)) i
+
+-- a text goes to the start of a buffer that has room for it; one that has not is refused, and stays as it was
+unfoldable pub placed : List ℕ → List ℕ → Written × List ℕ
+placed s buffer = cond (ltb (length buffer) (length s)) (TooShort, buffer) (Bytes (length s), s ++ drop (length s) buffer)
