@@ -1,3 +1,4 @@
+pub mod Bytes
 pub mod Checks
 pub mod Layouts
 pub mod Starts

@@ -7,6 +7,7 @@ ghost use Rattle.image.specs.Image.{codeAt};
 ghost use Rattle.checker.specs.Sweep.{bytesAt};
 ghost use Rattle.checker.specs.Internal.{Tables};
 use crate::sweep::Routine;
+use decoder::decode_by;
 use stm8::Decoded;
 
 // What stands at an offset: the bytes end with the routine.
@@ -22,5 +23,7 @@ pub fn decode_at(
     requires { ⌜ (code ≡ codeAt (now image)) × (at < r .end) × (code + r .end ≤ length (now image)) × Tables (now plain) (now after_72) (now after_90) ⌝ }
     ensures { λ d. ⌜ d ≡ decoded (bytesAt (now (image .entry)) r at) ⌝ }
 {
-    Decoded::Outside
+    let from = code + at;
+    let to = code + r.end;
+    decode_by(&image[from..to], plain, after_72, after_90)
 }

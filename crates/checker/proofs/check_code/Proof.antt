@@ -15,7 +15,7 @@ routine-starts-requires c κs =
     let c4 = c .before .before .before .before in
     let c8 = c4 .before .before .before .before in
     let valid = c8 .before .pre .0 in
-    (count-is _ _ _ valid, valid-bounds _ _ _ valid .few, omega (arith, valid-bounds _ _ _ valid .most, size-is _ _ _ valid))
+    (count-is _ _ _ valid, valid-bounds _ _ _ valid .count .1, omega (arith, valid-bounds _ _ _ valid .size .1, size-is _ _ _ valid))
 
 sweep-routines-requires : tie.Need-sweep-routines-requires
 sweep-routines-requires c κs =
@@ -37,7 +37,7 @@ verdict-of-requires c κs =
     let c8 = c4 .before .before .before .before in
     let c12 = c8 .before .before .before .before in
     let c16 = c12 .before .before .before .before in
-    let bounds = valid-bounds _ _ _ (c16 .before .before .pre .0) in (bounds .some, bounds .few, c .before .before .sweep-routines .ensures .1)
+    let bounds = valid-bounds _ _ _ (c16 .before .before .pre .0) in (bounds .count .0, bounds .count .1, c .before .before .sweep-routines .ensures .1)
 
 returns : tie.Need-returns
 returns c =

@@ -14,13 +14,13 @@ check-code-requires c κs =
 returns-2 : tie.Need-returns-2
 returns-2 c =
     let c4 = c .before .before .before .before in
-    valid-enough _ _ _ _ (c4 .if1 .left) _ _ (c .before .before .check-code .ensures)
+    valid-enough _ _ _ (c4 .before .before .before .args .layout) (c4 .if1 .left) _ _ (c .before .before .check-code .ensures)
 
 pub check-valid-spec : {M : Type 1} → statement M
 check-valid-spec =
     tie.close
     (tie.spec
-    (λ c. valid-few _ _ _ _ (c .if1 .taken))
+    (λ c. valid-few _ _ _ (c .before .before .before .args .layout) (c .if1 .taken))
     (λ c. search needs)
     (λ c. sym (length-take-le _ _ (c .before .if1 .left)))
     check-code-requires

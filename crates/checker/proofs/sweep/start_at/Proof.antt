@@ -56,7 +56,7 @@ decode-at-requires c κs =
     let setting = c8 .before .pre .0 in
     let ready = c8 .before .pre .1 in
     let bounds = valid-bounds _ _ _ (setting .valid) in
-    (code-is _ _ _ (setting .valid), ready .at, omega (arith, ready .end, bounds .whole), setting .tables)
+    (code-is _ _ _ (setting .valid), ready .at, omega (arith, ready .end, bounds .end), setting .tables)
 
 returns-2 : tie.Need-returns-2
 returns-2 c =
@@ -81,9 +81,17 @@ instruction-at-requires c κs =
     let ready = c12 .before .before .before .pre .1 in
     let bounds = valid-bounds _ _ _ (setting .valid) in
     let inside = found-inside (now (start .image)) (start .r) (start .p .at) _ _ _ (c4 .before .decode-at .ensures) (c .before .before .before .d .given .1) in
-    (omega (arith, ready .index, bounds .few), omega (arith, ready .start, ready .at, ready .end, bounds .most), omega (arith, ready .end, bounds .most),
-    omega (arith, inside .1, ready .at, ready .end, bounds .most), omega (arith, ready .count, ready .at, ready .end, bounds .most),
+    (omega (arith, ready .index, bounds .count .1), omega (arith, ready .start, ready .at, ready .end, bounds .size .1), omega (arith, ready .end, bounds .size .1),
+    omega (arith, inside .1, ready .at, ready .end, bounds .size .1), omega (arith, ready .count, ready .at, ready .end, bounds .size .1),
     omega (arith, c .less .ensures, c4 .before .before .larger .ensures, c8 .before .before .before .wide .ensures .1, ready .falls))
+
+same-length-2 : tie.Need-same-length-2
+same-length-2 c =
+    let c4 = c .before .before .before .before in
+    let c8 = c4 .before .before .before .before in
+    let c12 = c8 .before .before .before .before in
+    let c16 = c12 .before .before .before .before in
+    c .before .before .instruction-at .kept .1 .1 .1 .1 .1 .0 ∙ length-set (now (c16 .before .before .args .marks)) (c16 .before .before .args .p .at) (c8 .before .larger .result)
 
 returns-3 : tie.Need-returns-3
 returns-3 c =
@@ -122,5 +130,5 @@ start-at-spec =
     returns-2
     (λ c κs. search needs)
     instruction-at-requires
-    (λ c. c .before .before .instruction-at .kept .1 .1 .1 .1 .1 .0 ∙ length-set _ _ _)
+    same-length-2
     returns-3)

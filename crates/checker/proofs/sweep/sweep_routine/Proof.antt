@@ -65,7 +65,7 @@ went c = start-went _ _ _ _ _ _ _ (ready (c .before)) (c .before .before .before
 add-end : tie.Need-add-end Inv-loop μ-loop
 add-end c =
     let c4 = c .before .before .before .before in
-    omega (arith, end-is c, valid-bounds _ _ _ (c4 .before .pre .0 .valid) .ends (c4 .before .args .s .index) (c4 .before .pre .2), valid-bounds _ _ _ (c4 .before .pre .0 .valid) .most)
+    omega (arith, end-is c, valid-bounds _ _ _ (c4 .before .pre .0 .valid) .ends (c4 .before .args .s .index) (c4 .before .pre .2), valid-bounds _ _ _ (c4 .before .pre .0 .valid) .size .1)
 
 loop-holds : tie.Need-loop-holds Inv-loop μ-loop
 loop-holds c =

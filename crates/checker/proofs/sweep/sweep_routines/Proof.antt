@@ -50,9 +50,9 @@ returns c =
       sym (g .same) ∙ routines-last _ _ _ _ _ h _ _ (c4 .before .sweep-routine .ensures .0) (c .before .if2 .taken) ∙ ap (λ x. (x, c4 .before .sweep-routine .last .1 .1 .1 .1 .1 .1 .1 .0)) (sym (c .stopped .ensures)),
       rw (c .stopped .ensures)
       (record {
-        at = omega (arith, ended .at, bounds .ends (c8 .before .before .loop .s .index) h, bounds .most);
+        at = omega (arith, ended .at, bounds .ends (c8 .before .before .loop .s .index) h, bounds .size .1);
         count = ended .count;
-        needs = λ k. omega (arith, g .between .needs k, g .between .index, bounds .few);
+        needs = λ k. omega (arith, g .between .needs k, g .between .index, bounds .count .1);
       }),
     )
 
@@ -61,7 +61,7 @@ closed-requires c κs =
     let c4 = c .before .before .before .before in
     let c8 = c4 .before .before .before .before in
     let c12 = c8 .before .before .before .before in
-    omega (arith, c4 .sweep-routine .ensures .1 .need, c4 .before .before .if1 .taken, valid-bounds _ _ _ (c12 .pre .0 .valid) .few)
+    omega (arith, c4 .sweep-routine .ensures .1 .need, c4 .before .before .if1 .taken, valid-bounds _ _ _ (c12 .pre .0 .valid) .count .1)
 
 loop-less : tie.Need-loop-less Inv-loop μ-loop
 loop-less c =
@@ -90,9 +90,9 @@ returns-2 c =
     let image = now (c4 .before .before .args .image) in (
       sym (g .same) ∙ routines-done _ _ _ _ _ (c .if1 .left),
       record {
-        at = omega (arith, g .between .at, start-inside image (c .before .before .before .loop .s .index), size-is _ _ _ (c4 .before .before .pre .0 .valid), bounds .most);
+        at = omega (arith, g .between .at, start-inside image (c .before .before .before .loop .s .index), size-is _ _ _ (c4 .before .before .pre .0 .valid), bounds .size .1);
         count = g .between .count;
-        needs = λ k. omega (arith, g .between .needs k, g .between .index, bounds .few);
+        needs = λ k. omega (arith, g .between .needs k, g .between .index, bounds .count .1);
       },
     )
 
