@@ -14,14 +14,14 @@ ghost use Rattle.image.specs.Validation.{validated};
 ghost use Rattle.image.specs.declared.Validated.the-variants.{Valid};
 ghost use Rattle.checker.specs.Check.{verdict, codeMarks, codeChecked, validatedChecked, checked};
 ghost use Rattle.checker.specs.Internal.{Begins, Swept};
+use crate::marks::clear;
+use crate::sweep::Sweep;
+use crate::sweep::sweep_routines;
 use image::Layout;
 use image::Limits;
 use image::Validated;
 use image::routine_length;
 use image::validate;
-use crate::marks::clear;
-use crate::sweep::Sweep;
-use crate::sweep::sweep_routines;
 
 pub enum Verdict {
     // The need and the number of starts.
@@ -83,7 +83,16 @@ fn check_code(image: &[u8], limits: Limits, layout: Layout, marks: &mut [u16]) -
     let after_72 = stm8::after_72_lengths();
     let after_90 = stm8::after_90_lengths();
     let starts = routine_starts(image, layout.count);
-    let s = sweep_routines(image, limits, layout, &plain, &after_72, &after_90, &starts, marks);
+    let s = sweep_routines(
+        image,
+        limits,
+        layout,
+        &plain,
+        &after_72,
+        &after_90,
+        &starts,
+        marks,
+    );
     let v = verdict_of(limits, layout, s);
     clear_refused(v, marks);
     v

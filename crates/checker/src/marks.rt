@@ -14,11 +14,7 @@ pub fn wide(x: u16) -> usize
 pub fn mark_at(marks: &[u16], at: usize) -> usize
     ensures { λ r. ⌜ r ≡ getD (now (marks .entry)) at 0 ⌝ }
 {
-    if at < marks.len() {
-        wide(marks[at])
-    } else {
-        0
-    }
+    if at < marks.len() { wide(marks[at]) } else { 0 }
 }
 
 // A mark is set, where there is a cell.

@@ -106,14 +106,7 @@ pub fn target(base: u16, next: usize, offset: u8) -> usize
 }
 
 // For a jump 13, 10, 7.
-fn jump_check(
-    base: u16,
-    marks: &[u16],
-    r: Routine,
-    next: usize,
-    mark: usize,
-    offset: u8,
-) -> u8
+fn jump_check(base: u16, marks: &[u16], r: Routine, next: usize, mark: usize, offset: u8) -> u8
     requires { ⌜ (r .start ≤ 4096) × (r .end ≤ 4096) × (next ≤ 4096) ⌝ }
     ensures { λ x. ⌜ x ≡ jumpCheck base (now (marks .entry)) r next mark (relativeTo (base + next) offset) ⌝ }
 {
@@ -151,13 +144,7 @@ fn callee(starts: &[u16; 32], base: u16, r: usize, address: usize) -> usize
 }
 
 // The callee of an instruction, 0 where it is no call.
-pub fn called_by(
-    starts: &[u16; 32],
-    base: u16,
-    r: usize,
-    next: usize,
-    flow: Flow,
-) -> usize
+pub fn called_by(starts: &[u16; 32], base: u16, r: usize, next: usize, flow: Flow) -> usize
     requires { ⌜ (r ≤ 32) × (next ≤ 4096) ⌝ }
     ensures { λ x. ⌜ ((image : List ℕ) → base ≡ baseOf image → Begins image (now (starts .entry)) r → x ≡ called image r next flow) ⌝ }
     ensures { λ x. ⌜ x ≤ r ⌝ }
@@ -227,10 +214,7 @@ pub fn instruction_check(
     let flow = e.flow;
     let next = at + n;
     let mark = after(e, depth) + 1;
-    let refusal = first(
-        inside_check(marks, at + 1, next),
-        depth_check(e, depth),
-    );
+    let refusal = first(inside_check(marks, at + 1, next), depth_check(e, depth));
     let refusal = first(refusal, store_check(limits, place, depth));
     let refusal = first(
         refusal,

@@ -81,16 +81,8 @@ fn mark_target(marks: &mut [u16], base: u16, next: usize, mark: u16, flow: Flow)
 {
     match flow {
         Flow::Next => (),
-        Flow::Branch(n) => set_mark(
-            marks,
-            less(target(base, next, n), base as usize),
-            mark,
-        ),
-        Flow::Jump(n) => set_mark(
-            marks,
-            less(target(base, next, n), base as usize),
-            mark,
-        ),
+        Flow::Branch(n) => set_mark(marks, less(target(base, next, n), base as usize), mark),
+        Flow::Jump(n) => set_mark(marks, less(target(base, next, n), base as usize), mark),
         Flow::Call(_) => (),
         Flow::CallRelative(_) => (),
         Flow::Return => (),
@@ -256,7 +248,17 @@ fn sweep_routine(
     };
     while p.at < end {
         p = start_at(
-            image, limits, layout, plain, after_72, after_90, starts, &needs, r, marks, p,
+            image,
+            limits,
+            layout,
+            plain,
+            after_72,
+            after_90,
+            starts,
+            &needs,
+            r,
+            marks,
+            p,
         );
         if p.refusal != 0 {
             return p;
@@ -321,7 +323,15 @@ pub fn sweep_routines(
     };
     while s.index < layout.count {
         let p = sweep_routine(
-            image, limits, layout, plain, after_72, after_90, starts, marks, s,
+            image,
+            limits,
+            layout,
+            plain,
+            after_72,
+            after_90,
+            starts,
+            marks,
+            s,
         );
         if p.refusal != 0 {
             return stopped(s, p);

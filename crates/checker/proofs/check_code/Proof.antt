@@ -21,8 +21,7 @@ sweep-routines-requires : tie.Need-sweep-routines-requires
 sweep-routines-requires c κs =
     let c4 = c .before .before .before .before in
     let c8 = c4 .before .before .before .before in
-    let c12 = c8 .before .before .before .before in
-    (
+    let c12 = c8 .before .before .before .before in (
       record {
         valid = c12 .before .before .before .pre .0;
         tables = record { plain-is = c8 .plain-lengths .ensures; after72-is = c4 .before .before .before .after-72-lengths .ensures; after90-is = c4 .before .before .after-90-lengths .ensures };

@@ -1,5 +1,5 @@
 -- `checker::routine_starts` meets its contract. The loop's invariant: the routines before k begin where the array says, and routine k begins at `at`.
-use Prim.Native.Nat.{ℕ, _-_, _<_, _≤_}
+use Prim.Native.Nat.{ℕ, _-_, _≤_}
 use mathlib.Core.Path.{_≡_, sym, _∙_}
 use lib.ListN.{length, length-replicate, length-set}
 use Rattle.image.specs.Image.{startOf, endOf}

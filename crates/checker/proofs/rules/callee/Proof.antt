@@ -19,8 +19,7 @@ abbrev μ-loop : tie.MeasureT-loop
 
 returns-2 : tie.Need-returns-2 Inv-loop μ-loop
 returns-2 c =
-    let c4 = c .before .before .before .before in
-    (
+    let c4 = c .before .before .before .before in (
       λ image e begins.
           let here = c .before .wide .ensures .0 ∙ begins _ (c .before .before .before .loop-test .taken) in
           sym (beginning-stop image _ _ _ _ (c .before .before .before .loop-test .taken) here (c .if2 .taken)) ∙ c4 .loop .inv .1 image begins ∙ sym (callee-above image _ _ _ e (c4 .before .if1 .left)),
@@ -29,8 +28,7 @@ returns-2 c =
 
 loop-again : tie.Need-loop-again Inv-loop μ-loop
 loop-again c =
-    let c4 = c .before .before .before .before in
-    (
+    let c4 = c .before .before .before .before in (
       omega arith,
       λ image begins.
           let here = c .before .wide .ensures .0 ∙ begins _ (c .before .before .before .loop-test .taken) in

@@ -14,8 +14,7 @@ returns : tie.Need-returns
 unfolding firstIn instructionCheck
 returns c =
     let c4 = c .before .before .before .before in
-    let c8 = c4 .before .before .before .before in
-    (
+    let c8 = c4 .before .before .before .before in (
       λ image e ec.
           let start = c8 .before .before .before .args in
           let inside : start .at + start .n - (start .at + 1) ≡ start .n - 1 = omega arith in

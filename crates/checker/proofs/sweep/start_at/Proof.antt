@@ -80,10 +80,14 @@ instruction-at-requires c κs =
     let setting = c12 .before .before .before .pre .0 in
     let ready = c12 .before .before .before .pre .1 in
     let bounds = valid-bounds _ _ _ (setting .valid) in
-    let inside = found-inside (now (start .image)) (start .r) (start .p .at) _ _ _ (c4 .before .decode-at .ensures) (c .before .before .before .d .given .1) in
-    (omega (arith, ready .index, bounds .count .1), omega (arith, ready .start, ready .at, ready .end, bounds .size .1), omega (arith, ready .end, bounds .size .1),
-    omega (arith, inside .1, ready .at, ready .end, bounds .size .1), omega (arith, ready .count, ready .at, ready .end, bounds .size .1),
-    omega (arith, c .less .ensures, c4 .before .before .larger .ensures, c8 .before .before .before .wide .ensures .1, ready .falls))
+    let inside = found-inside (now (start .image)) (start .r) (start .p .at) _ _ _ (c4 .before .decode-at .ensures) (c .before .before .before .d .given .1) in (
+      omega (arith, ready .index, bounds .count .1),
+      omega (arith, ready .start, ready .at, ready .end, bounds .size .1),
+      omega (arith, ready .end, bounds .size .1),
+      omega (arith, inside .1, ready .at, ready .end, bounds .size .1),
+      omega (arith, ready .count, ready .at, ready .end, bounds .size .1),
+      omega (arith, c .less .ensures, c4 .before .before .larger .ensures, c8 .before .before .before .wide .ensures .1, ready .falls),
+    )
 
 same-length-2 : tie.Need-same-length-2
 same-length-2 c =

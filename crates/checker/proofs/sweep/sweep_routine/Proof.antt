@@ -1,7 +1,6 @@
 -- `checker::sweep::sweep_routine` meets its contract. The loop's invariant: what is left to sweep gives what the whole gives.
 use Prim.Native.Nat.{_+_, _-_}
 use mathlib.Core.Path.{_≡_, refl, sym, _∙_}
-use lib.ListN.{length}
 use Rattle.image.specs.Image.{endOf}
 use Rattle.image.proofs.ValidLayout.{valid-bounds}
 use Rattle.checker.specs.Sweep.{startsFrom, routineSwept}

@@ -1,6 +1,6 @@
 -- `checker::sweep::sweep_routines` meets its contract. The loop's invariant: what is left to sweep gives what the whole gives.
 use Prim.Native.Nat.{_-_}
-use mathlib.Core.Path.{_≡_, refl, sym, ap, _∙_}
+use mathlib.Core.Path.{sym, ap, _∙_}
 use native.Mathlib.Nat.{sub-zero}
 use Rattle.image.proofs.Measuring.{start-zero, start-inside}
 use Rattle.image.proofs.ValidLayout.{valid-bounds}
@@ -49,11 +49,11 @@ returns c =
     let bounds = valid-bounds _ _ _ (c12 .before .pre .0 .valid) in (
       sym (g .same) ∙ routines-last _ _ _ _ _ h _ _ (c4 .before .sweep-routine .ensures .0) (c .before .if2 .taken) ∙ ap (λ x. (x, c4 .before .sweep-routine .last .1 .1 .1 .1 .1 .1 .1 .0)) (sym (c .stopped .ensures)),
       rw (c .stopped .ensures)
-      (record {
-        at = omega (arith, ended .at, bounds .ends (c8 .before .before .loop .s .index) h, bounds .size .1);
-        count = ended .count;
-        needs = λ k. omega (arith, g .between .needs k, g .between .index, bounds .count .1);
-      }),
+          (record {
+            at = omega (arith, ended .at, bounds .ends (c8 .before .before .loop .s .index) h, bounds .size .1);
+            count = ended .count;
+            needs = λ k. omega (arith, g .between .needs k, g .between .index, bounds .count .1);
+          }),
     )
 
 closed-requires : tie.Need-closed-requires Inv-loop μ-loop
