@@ -1,6 +1,6 @@
 // The effect of an instruction, which the check and the machine share.
 ghost use mathlib.Core.Path.{_≡_};
-ghost use Rattle.stm8.specs.Effects.{placeOf, writesBack, modifyPlace, fallsThrough, jumpFlow, moves as movesOf, goes as goesOf, calls as callsOf, effect};
+ghost use Rattle.stm8.specs.Effects.{relative as relativeTo, bytesWide, placeOf, writesBack, modifyPlace, fallsThrough, jumpFlow, moves as movesOf, goes as goesOf, calls as callsOf, effect};
 use stm8::Condition;
 use stm8::Effect;
 use stm8::Flow;
@@ -9,6 +9,30 @@ use stm8::ModifyOp;
 use stm8::Operand;
 use stm8::Place;
 use stm8::Width;
+
+// Where a relative jump or call goes. An address below 0, which no code has, counts as 0.
+pub fn relative(next: u32, offset: u8) -> usize
+    ensures { λ r. ⌜ r ≡ relativeTo next offset ⌝ }
+{
+    let sum = next as usize + offset as usize;
+    if offset < 128 {
+        sum
+    } else if sum < 256 {
+        0
+    } else {
+        sum - 256
+    }
+}
+
+// How many bytes a store of a width writes.
+pub fn bytes_wide(w: Width) -> usize
+    ensures { λ r. ⌜ r ≡ bytesWide w ⌝ }
+{
+    match w {
+        Width::Byte => 1,
+        Width::Word => 2,
+    }
+}
 
 // Where a store to an operand goes.
 fn place_of(x: Operand, w: Width) -> Place

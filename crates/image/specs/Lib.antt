@@ -1,3 +1,4 @@
 pub mod Image
+pub mod Access
 pub mod Validation
 pub mod Rules

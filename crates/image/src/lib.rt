@@ -1,7 +1,9 @@
 // SLU images and limits: refusals 1 to 4, and the layout of an image that is not refused.
+mod access;
 mod areas;
 mod header;
 
+pub use access::granted;
 pub use areas::limits_of;
 pub use header::routine_length;
 ghost use mathlib.Core.Path.{_≡_};

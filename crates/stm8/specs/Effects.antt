@@ -1,7 +1,8 @@
 -- The effect of an instruction: the stack bytes it pops and then pushes, where it stores, and where it goes on. The check and the machine
 -- both go by it, so that neither looks into an instruction's arithmetic to know what it may write.
-use Prim.Native.Nat.{ℕ}
+use Prim.Native.Nat.{ℕ, _+_, _-_}
 use mathlib.Core.Bool.{Bool, true, false, cond}
+use lib.Dec.{ltb}
 use Rattle.stm8.specs.declared.Operand.{Operand}
 use Rattle.stm8.specs.declared.Operand.the-variants.{Accumulator, Immediate, ImmediateWord, Short, Long, Indexed, Sp}
 use Rattle.stm8.specs.declared.ModifyOp.{ModifyOp}
@@ -17,6 +18,10 @@ use Rattle.stm8.specs.declared.Place.the-variants.{Nowhere, Direct, OnSt
 use Rattle.stm8.specs.declared.Flow.{Flow}
 use Rattle.stm8.specs.declared.Flow.the-variants.{Next, Branch, Jump, Call, CallRelative, Return}
 use Rattle.stm8.specs.declared.Effect.{Effect}
+
+-- where a relative jump or call goes: its offset is signed, -128 to 127, from the next instruction's address
+unfoldable pub relative : ℕ → ℕ → ℕ
+relative next offset = cond (ltb offset 128) (next + offset) (next + offset - 256)
 
 -- the bytes of a width
 abbrev pub bytesWide : Width → ℕ

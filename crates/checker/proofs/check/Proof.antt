@@ -1,0 +1,34 @@
+-- `checker::check` meets its contract.
+use mathlib.Core.Path.{sym, _∙_}
+use Rattle.checker.specs.Check.{checked}
+use borrow.Author.Needs.{needs}
+use Rattle.checker.proofs.check.Statement.{statement}
+use Rattle.checker.proofs.check.Tie as tie
+
+check-valid-requires : tie.Need-check-valid-requires
+check-valid-requires c κs =
+    let c4 = c .before .before .before .before in
+    sym (c4 .validate .ensures) ∙ c .before .before .v2 .given .1
+
+returns : tie.Need-returns
+unfolding checked
+returns c =
+    rw (← c .before .before .before .validate .ensures, c .before .v .given .1)
+
+returns-2 : tie.Need-returns-2
+unfolding checked
+returns-2 c =
+    let c4 = c .before .before .before .before in
+    rw (← c4 .before .before .before .validate .ensures, c4 .before .v2 .given .1) (c .before .before .check-valid .ensures)
+
+pub check-spec : {M : Type 1} → statement M
+check-spec =
+    tie.close
+    (tie.spec
+    (λ c κs. search needs)
+    (λ c. search needs)
+    (λ c. search needs)
+    check-valid-requires
+    returns
+    (λ c. search needs)
+    returns-2)

@@ -1,0 +1,15 @@
+-- `checker::depth::popped` meets its contract.
+use Rattle.checker.specs.Depth.{popped}
+use borrow.Author.Needs.{needs}
+use Rattle.checker.proofs.depth.popped.Statement.{statement}
+use Rattle.checker.proofs.depth.popped.Tie as tie
+
+pub popped-spec : {M : Type 1} → statement M
+unfolding popped
+popped-spec =
+    tie.close
+    (tie.spec
+    (λ c κs. search needs)
+    (λ c. search needs)
+    (λ c. rw (← c .before .before .moves-depth .ensures, c .before .if1 .taken))
+    (λ c. rw (← c .before .moves-depth .ensures, c .if1 .left)))

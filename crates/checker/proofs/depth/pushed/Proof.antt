@@ -1,0 +1,15 @@
+-- `checker::depth::pushed` meets its contract.
+use Rattle.checker.specs.Depth.{pushed}
+use borrow.Author.Needs.{needs}
+use Rattle.checker.proofs.depth.pushed.Statement.{statement}
+use Rattle.checker.proofs.depth.pushed.Tie as tie
+
+pub pushed-spec : {M : Type 1} → statement M
+unfolding pushed
+pushed-spec =
+    tie.close
+    (tie.spec
+    (λ c κs. search needs)
+    (λ c. search needs)
+    (λ c. (rw (← c .before .before .moves-depth .ensures, c .before .if1 .taken), search needs))
+    (λ c. (rw (← c .before .moves-depth .ensures, c .if1 .left), search needs)))

@@ -1,0 +1,4 @@
+pub mod Depth
+pub mod Sweep
+pub mod Check
+pub mod Internal

@@ -1,0 +1,9 @@
+-- Where a direct store may go: the check, the step and the guarantee all cite this.
+use Prim.Native.Nat.{ℕ, _+_}
+use mathlib.Core.Bool.{Bool, false, cond}
+use lib.Dec.{leb}
+use Rattle.image.specs.declared.Limits.{Limits}
+
+-- A direct store, both bytes of a word included, lies in the grant: n bytes from an address.
+unfoldable pub granted : Limits → ℕ → ℕ → Bool
+granted limits address n = cond (leb (limits .grant .low) address) (leb (address + n) (limits .grant .high + 1)) false
