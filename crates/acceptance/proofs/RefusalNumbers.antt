@@ -1,0 +1,238 @@
+-- The numbers of refusals: 1 to 4 before the sweep, 6 to 15 in it, whatever is swept. The sweep keeps the number of cells.
+use Prim.Native.Nat.{ℕ, zero, suc, _+_, _-_, _≤_}
+use mathlib.Core.Path.{_≡_, refl, _∙_}
+use mathlib.Core.Bool.{Bool, true, false, cond, _&&_, and-eq-true-iff}
+use mathlib.Core.List.{List, [], _∷_, map}
+use lib.Dec.{eqb, ltb, leb}
+use borrow.Author.Tests.{leb-true}
+use lib.ListN.{length, getD, set, length-set, length-replicate}
+use Rattle.numbers.specs.Checks.{first, both, under, unless, differ}
+use Rattle.numbers.specs.Folds.{firstIn}
+use Rattle.stm8.specs.Decoding.{decoded}
+use Rattle.stm8.specs.Effects.{effect}
+use Rattle.stm8.specs.declared.Effect.{Effect}
+use Rattle.stm8.specs.declared.Place.{Place}
+use Rattle.stm8.specs.declared.Place.the-variants.{Nowhere, Direct, OnStack, Pushed}
+use Rattle.stm8.specs.declared.Flow.{Flow}
+use Rattle.stm8.specs.declared.Flow.the-variants.{Next, Branch, Jump, Call, CallRelative, Return}
+use Rattle.stm8.specs.declared.Decoded.{Decoded}
+use Rattle.stm8.specs.declared.Decoded.the-variants.{Found, Outside, Truncated}
+use Rattle.image.specs.declared.Area.{Area}
+use Rattle.image.specs.declared.Limits.{Limits}
+use Rattle.image.specs.Image.{countOf, sizeOf, lengthsOf}
+use Rattle.image.specs.Validation.{areaCheck, apartCheck, limitsCheck, markCheck, versionCheck, lengthsCheck, layoutCheck, refusal}
+use Rattle.checker.specs.Depth.{falls, after}
+use Rattle.checker.specs.Sweep.{reachCheck, agreeCheck, insideCheck, returnCheck, depthCheck, storeCheck, jumpCheck, callCheck, flowCheck, offEndCheck, instructionCheck, moved, decodedAt, bytesAt, entry, startAt, startsFrom, routineOf, routineSwept, closed, routinesFrom, begun}
+use Rattle.checker.specs.Check.{swept}
+use Rattle.checker.specs.declared.sweep.Routine.{Routine}
+use Rattle.checker.specs.declared.sweep.Progress.{Progress}
+use Rattle.checker.specs.declared.sweep.Sweep.{Sweep}
+use Rattle.acceptance.proofs.Flows.{target-length}
+
+-- a check's number: 0, or from low to high
+pub data Numbered (low high : ℕ) : ℕ → Type 0 where
+  pass : Numbered low high 0
+  fails : {number : ℕ} → low ≤ number → number ≤ high → Numbered low high number
+
+-- a number that is written out is compared by computing
+abbrev Within : ℕ → ℕ → ℕ → Type 0
+Within low high number = (leb low number && leb number high) ≡ true
+
+infixr 5 _then_
+module _ {low high : ℕ} where
+  fails-as : (number : ℕ) → Within low high number → Numbered low high number
+  fails-as number within =
+      let both = and-eq-true-iff (leb low number) (leb number high) .0 within in
+      fails (leb-true _ _ (both .0)) (leb-true _ _ (both .1))
+
+  by-test : (t : Bool) {a b : ℕ} → Numbered low high a → Numbered low high b → Numbered low high (cond t a b)
+  by-test true x y = x
+  by-test false x y = y
+
+  _then_ : {a b : ℕ} → Numbered low high a → Numbered low high b → Numbered low high (first a b)
+  unfolding first
+  _then_ {a} x y = by-test (eqb a 0) y x
+
+  either : (a : ℕ) {b : ℕ} → Numbered low high b → Numbered low high (both a b)
+  unfolding both
+  either a y = by-test (eqb a 0) pass y
+
+  module _ (number : ℕ) (within : Within low high number) where
+    under-numbered : (a b : ℕ) → Numbered low high (under a b number)
+    unfolding under
+    under-numbered a b = by-test (ltb a b) (fails-as number within) pass
+
+    unless-numbered : (holds : Bool) → Numbered low high (unless holds number)
+    unfolding unless
+    unless-numbered holds = by-test holds pass (fails-as number within)
+
+    differ-numbered : (a b : ℕ) → Numbered low high (differ a b number)
+    unfolding differ
+    differ-numbered a b = by-test (eqb a b) pass (fails-as number within)
+
+-- the sweep's
+abbrev Sweeping : ℕ → Type 0
+Sweeping number = Numbered 6 15 number
+
+inside-numbered : (marks : List ℕ) (n at : ℕ) → Sweeping (insideCheck marks n at)
+unfolding insideCheck
+inside-numbered marks zero at = pass
+inside-numbered marks (suc n) at = under-numbered 10 refl _ _ then inside-numbered marks n (at + 1)
+
+return-numbered : (flow : Flow) (depth : ℕ) → Sweeping (returnCheck flow depth)
+return-numbered Next depth = pass
+return-numbered (Branch n) depth = pass
+return-numbered (Jump n) depth = pass
+return-numbered (Call a) depth = pass
+return-numbered (CallRelative n) depth = pass
+return-numbered Return depth = under-numbered 11 refl _ _
+
+depth-numbered : (e : Effect) (depth : ℕ) → Sweeping (depthCheck e depth)
+unfolding depthCheck firstIn
+depth-numbered e depth =
+    under-numbered 11 refl _ _ then under-numbered 11 refl _ _ then
+    under-numbered 11 refl _ _ then return-numbered (e .flow) depth then pass
+
+store-numbered : (limits : Limits) (place : Place) (depth : ℕ) → Sweeping (storeCheck limits place depth)
+unfolding storeCheck
+store-numbered limits Nowhere depth = pass
+store-numbered limits (Direct a w) depth = unless-numbered 12 refl _
+store-numbered limits (OnStack f w) depth = under-numbered 12 refl _ _ then under-numbered 12 refl _ _
+store-numbered limits (Pushed w) depth = pass
+
+jump-numbered : (base : ℕ) (marks : List ℕ) (r : Routine) (next mark target : ℕ) → Sweeping (jumpCheck base marks r next mark target)
+unfolding jumpCheck firstIn
+jump-numbered base marks r next mark target =
+    under-numbered 13 refl _ _ then under-numbered 13 refl _ _ then
+    either _ (under-numbered 10 refl _ _) then either _ (differ-numbered 7 refl _ _) then pass
+
+call-numbered : (image : List ℕ) (r address : ℕ) → Sweeping (callCheck image r address)
+unfolding callCheck
+call-numbered image r address = unless-numbered 14 refl _
+
+flow-numbered : (image marks : List ℕ) (r : Routine) (next mark : ℕ) (flow : Flow) → Sweeping (flowCheck image marks r next mark flow)
+unfolding flowCheck
+flow-numbered image marks r next mark Next = pass
+flow-numbered image marks r next mark (Branch n) = jump-numbered _ _ _ _ _ _
+flow-numbered image marks r next mark (Jump n) = jump-numbered _ _ _ _ _ _
+flow-numbered image marks r next mark (Call a) = call-numbered _ _ _
+flow-numbered image marks r next mark (CallRelative n) = call-numbered _ _ _
+flow-numbered image marks r next mark Return = pass
+
+instruction-numbered : (image : List ℕ) (limits : Limits) (marks : List ℕ) (r : Routine) (at depth n : ℕ) (e : Effect) →
+    Sweeping (instructionCheck image limits marks r at depth n e)
+unfolding instructionCheck offEndCheck firstIn
+instruction-numbered image limits marks r at depth n e =
+    inside-numbered marks (n - 1) (at + 1) then depth-numbered e depth then store-numbered limits (e .place) depth then
+    flow-numbered image marks r (at + n) (after e depth + 1) (e .flow) then
+    by-test (falls (e .flow)) (under-numbered 15 refl _ _) pass then pass
+
+reach-numbered : (falling mark : ℕ) → Sweeping (first (reachCheck falling mark) (agreeCheck falling mark))
+unfolding reachCheck agreeCheck
+reach-numbered falling mark =
+    either _ (under-numbered 6 refl _ _) then either _ (either _ (differ-numbered 7 refl _ _))
+
+-- a state of the sweep: its refusal's number, and as many cells
+pub record Counted (S : Type 0) (refusal : S → ℕ) (marks : List ℕ) (x : S × List ℕ) : Type 0 where
+  pub number : Sweeping (refusal (x .0))
+  pub size : length (x .1) ≡ length marks
+
+counted-test : {S : Type 0} {refusal : S → ℕ} (t : Bool) {marks : List ℕ} {x y : S × List ℕ} →
+    Counted S refusal marks x → Counted S refusal marks y → Counted S refusal marks (cond t x y)
+counted-test true a b = a
+counted-test false a b = b
+
+abbrev InRoutine : List ℕ → Progress × List ℕ → Type 0
+InRoutine = Counted Progress (λ p. p .refusal)
+
+abbrev Between : List ℕ → Sweep × List ℕ → Type 0
+Between = Counted Sweep (λ s. s .refusal)
+
+module _ (image : List ℕ) (limits : Limits) (needs : List ℕ) (r : Routine) where
+  decoded-counted : (marks : List ℕ) (p : Progress) (depth : ℕ) (found : Decoded) → InRoutine marks (decodedAt image limits needs r marks p depth found)
+  unfolding decodedAt moved
+  decoded-counted marks p depth Outside = record { number = fails-as 8 refl; size = refl }
+  decoded-counted marks p depth Truncated = record { number = fails-as 9 refl; size = refl }
+  decoded-counted marks p depth (Found i n) =
+      counted-test (eqb (instructionCheck image limits marks r (p .at) depth n (effect i)) 0)
+      (record { number = pass; size = target-length image marks r (p .at + n) (after (effect i) depth + 1) (effect i .flow) })
+      (record { number = instruction-numbered image limits marks r (p .at) depth n (effect i); size = refl })
+
+  start-counted : (marks : List ℕ) (p : Progress) → InRoutine marks (startAt image limits needs r marks p)
+  unfolding startAt
+  start-counted marks p =
+      let mark = entry (p .falls) (getD marks (p .at) 0) in
+      let g = decoded-counted (set marks (p .at) mark) p (mark - 1) (decoded (bytesAt image r (p .at))) in
+      counted-test (eqb (first (reachCheck (p .falls) (getD marks (p .at) 0)) (agreeCheck (p .falls) (getD marks (p .at) 0))) 0)
+      (record { number = g .number; size = g .size ∙ length-set marks (p .at) _ })
+      (record { number = reach-numbered (p .falls) (getD marks (p .at) 0); size = refl })
+
+  starts-counted : (fuel : ℕ) (marks : List ℕ) (p : Progress) → Sweeping (p .refusal) → InRoutine marks (startsFrom fuel image limits needs r marks p)
+  unfolding startsFrom
+  starts-counted zero marks p z = record { number = z; size = refl }
+  starts-counted (suc fuel) marks p z =
+      let g = start-counted marks p in
+      let h = starts-counted fuel (startAt image limits needs r marks p .1) (startAt image limits needs r marks p .0) (g .number) in
+      counted-test (ltb (p .at) (r .end))
+      (counted-test (eqb (startAt image limits needs r marks p .0 .refusal) 0) (record { number = h .number; size = h .size ∙ g .size }) g)
+      (record { number = z; size = refl })
+
+module _ (image : List ℕ) (limits : Limits) where
+  routine-counted : (marks : List ℕ) (s : Sweep) → InRoutine marks (routineSwept image limits marks s)
+  unfolding routineSwept
+  routine-counted marks s = starts-counted image limits (s .needs) (routineOf image (s .index)) _ marks _ pass
+
+  routines-counted : (n : ℕ) (marks : List ℕ) (s : Sweep) → Sweeping (s .refusal) → Between marks (routinesFrom n image limits marks s)
+  unfolding routinesFrom
+  routines-counted zero marks s z = record { number = z; size = refl }
+  routines-counted (suc n) marks s z =
+      let g = routine-counted marks s in
+      let h = routines-counted n (routineSwept image limits marks s .1) (closed s (routineSwept image limits marks s .0)) pass in
+      counted-test (eqb (routineSwept image limits marks s .0 .refusal) 0)
+      (record { number = h .number; size = h .size ∙ g .size }) (record { number = g .number; size = g .size })
+
+  pub sweep-number : Sweeping (swept image limits .0 .refusal)
+  unfolding swept
+  sweep-number = routines-counted (countOf image) _ begun pass .number
+
+  pub sweep-size : length (swept image limits .1) ≡ sizeOf image
+  unfolding swept
+  sweep-size = routines-counted (countOf image) _ begun pass .size ∙ length-replicate {A = ℕ} (sizeOf image) 0
+
+-- those before the sweep
+abbrev Validating : ℕ → Type 0
+Validating number = Numbered 1 4 number
+
+area-numbered : (area : Area) → Validating (areaCheck area)
+unfolding areaCheck firstIn
+area-numbered area =
+    under-numbered 1 refl _ _ then under-numbered 1 refl _ _ then under-numbered 1 refl _ _ then pass
+
+limits-numbered : (limits : Limits) → Validating (limitsCheck limits)
+unfolding limitsCheck apartCheck firstIn
+limits-numbered limits =
+    area-numbered (limits .grant) then area-numbered (limits .stack) then under-numbered 1 refl _ _ then
+    either _ (unless-numbered 1 refl _) then pass
+
+mark-numbered : (image : List ℕ) → Validating (markCheck image)
+unfolding markCheck firstIn
+mark-numbered image =
+    under-numbered 2 refl _ _ then differ-numbered 2 refl _ _ then
+    differ-numbered 2 refl _ _ then differ-numbered 2 refl _ _ then pass
+
+each-numbered : (lengths : List ℕ) → Validating (firstIn (map (λ n. under n 1 4) lengths))
+unfolding firstIn
+each-numbered [] = pass
+each-numbered (n ∷ lengths) = under-numbered 4 refl n 1 then each-numbered lengths
+
+layout-numbered : (image : List ℕ) → Validating (layoutCheck image)
+unfolding layoutCheck lengthsCheck firstIn
+layout-numbered image =
+    under-numbered 4 refl _ _ then under-numbered 4 refl _ _ then each-numbered (lengthsOf image) then
+    under-numbered 4 refl _ _ then under-numbered 4 refl _ _ then under-numbered 4 refl _ _ then
+    differ-numbered 4 refl _ _ then pass
+
+pub validation-number : (image : List ℕ) (limits : Limits) → Validating (refusal image limits)
+unfolding refusal versionCheck firstIn
+validation-number image limits =
+    limits-numbered limits then mark-numbered image then differ-numbered 3 refl _ _ then layout-numbered image then pass
