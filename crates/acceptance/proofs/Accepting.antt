@@ -100,7 +100,7 @@ module _ (image : List ℕ) (limits : Limits) (marks : List ℕ) where
     same-need =
         one-need image limits (depthIn (swept image limits .1)) depth (needIn (swept image limits .0 .needs)) need
         (swept-rules image (rules .layout) limits passes) (rules .routines) (swept-needs image (rules .layout) limits passes) (rules .needs)
-        (mainOf image) (omega (arith, rules .layout .some))
+        (mainOf image) (omega (arith, rules .layout .count .0))
 
     same-reported : needReported image (swept image limits .0) ≡ reportedNeed image need
     same-reported =

@@ -48,7 +48,7 @@ module _ (image : List ℕ) (layout : ImageRules image) (limits : Limits) where
     same-need j below = sym (getD-set-other (s .needs) (s .index) j (p .need) 0 (λ e. omega arith))
 
     own-need : needIn (closed s p .needs) (s .index) ≡ p .need
-    own-need = getD-set-same (s .needs) (s .index) (p .need) 0 (omega (arith, swept .held, layout .few))
+    own-need = getD-set-same (s .needs) (s .index) (p .need) 0 (omega (arith, swept .held, layout .count .1))
 
     by-routine : (P : ℕ → Type 0) (r : ℕ) → r < s .index + 1 → (r < s .index → P r) → P (s .index) → P r
     by-routine P r below earlier own =

@@ -20,7 +20,7 @@ use Rattle.stm8.specs.declared.Decoded.the-variants.{Found, Outside, Truncated}
 use Rattle.image.specs.declared.Area.{Area}
 use Rattle.image.specs.declared.Limits.{Limits}
 use Rattle.image.specs.Image.{countOf, sizeOf, lengthsOf}
-use Rattle.image.specs.Validation.{areaCheck, apartCheck, limitsCheck, markCheck, versionCheck, lengthsCheck, layoutCheck, refusal}
+use Rattle.image.specs.Validation.{areaCheck, apartCheck, limitsCheck, markCheck, versionCheck, lengthCheck, lengthsCheck, layoutCheck, refusal}
 use Rattle.checker.specs.Depth.{falls, after}
 use Rattle.checker.specs.Sweep.{reachCheck, agreeCheck, insideCheck, returnCheck, depthCheck, storeCheck, jumpCheck, callCheck, flowCheck, offEndCheck, instructionCheck, moved, decodedAt, bytesAt, entry, startAt, startsFrom, routineOf, routineSwept, closed, routinesFrom, begun}
 use Rattle.checker.specs.Check.{swept}
@@ -217,11 +217,10 @@ limits-numbered limits =
 mark-numbered : (image : List ℕ) → Validating (markCheck image)
 unfolding markCheck firstIn
 mark-numbered image =
-    under-numbered 2 refl _ _ then differ-numbered 2 refl _ _ then
-    differ-numbered 2 refl _ _ then differ-numbered 2 refl _ _ then pass
+    under-numbered 2 refl _ _ then unless-numbered 2 refl _ then pass
 
-each-numbered : (lengths : List ℕ) → Validating (firstIn (map (λ n. under n 1 4) lengths))
-unfolding firstIn
+each-numbered : (lengths : List ℕ) → Validating (firstIn (map lengthCheck lengths))
+unfolding firstIn lengthCheck
 each-numbered [] = pass
 each-numbered (n ∷ lengths) = under-numbered 4 refl n 1 then each-numbered lengths
 

@@ -1,0 +1,9 @@
+-- `arithmetic::modify::sra` meets its contract.
+use borrow.Author.Needs.{needs}
+use Rattle.numbers.specs.Bits.{bit}
+use Rattle.arithmetic.proofs.modify.sra.Statement.{statement}
+use Rattle.arithmetic.proofs.modify.sra.Tie as tie
+
+pub sra-spec : {M : Type 1} → statement M
+unfolding bit
+sra-spec = tie.close (tie.spec (λ c. search needs) (λ c. search needs) (λ c κs. search needs) (λ c κs. search needs) (λ c. cc))

@@ -1,0 +1,30 @@
+-- `arithmetic::sums::borrow` meets its contract.
+use native.Mathlib.Omega.{arith}
+use borrow.Author.Needs.{needs}
+use Rattle.arithmetic.specs.Sums.{borrowOut}
+use Rattle.arithmetic.proofs.BitLaws.{flag-le}
+use Rattle.arithmetic.proofs.SumLaws.{limit, limit-positive, below-limit}
+use Rattle.arithmetic.proofs.sums.borrow.Statement.{statement}
+use Rattle.arithmetic.proofs.sums.borrow.Tie as tie
+
+add-result : tie.Need-add-result
+add-result c =
+    let a = c .before .args in
+    record { fits = omega (arith, below-limit (a .n) (c .before .pre) (a .m), flag-le (a .c)) }
+
+returns : tie.Need-returns
+unfolding borrowOut
+returns c = rw (limit (c .before .args .n) (c .before .pre), c .flag .ensures)
+
+pub borrow-spec : {M : Type 1} → statement M
+borrow-spec =
+    tie.close
+    (tie.spec
+    (λ c. search needs)
+    (λ c. search needs)
+    (λ c. limit-positive (c .args .n) (c .pre))
+    (λ c. limit-positive (c .args .n) (c .pre))
+    (λ c κs. search needs)
+    (λ c. search needs)
+    add-result
+    returns)

@@ -1,0 +1,13 @@
+pub mod Stores
+pub mod Forms
+pub mod CheckedCode
+pub mod Frames
+pub mod Moves
+pub mod OneStep
+pub mod AnyStep
+pub mod AnyList
+pub mod CheckedByRules
+pub mod Starting
+pub mod MainPlace
+pub mod Guarantee
+pub mod Sample

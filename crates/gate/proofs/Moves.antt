@@ -1,0 +1,95 @@
+-- What an instruction moves and stores where a routine stands: no trap stops it, and it writes to the grant and to the routine's own stack bytes alone.
+use Prim.Native.Nat.{ℕ, _+_, _-_, _≤_, _<_}
+use mathlib.Core.Path.{_≡_, refl}
+use mathlib.Core.List.{List}
+use native.Mathlib.Omega.{arith}
+use lib.ListN.{length, getD}
+use lib.Seq.{length-sets}
+use Rattle.numbers.proofs.Checking.{under-pass, unless-pass}
+use Rattle.numbers.proofs.Folding.{_&_}
+use Rattle.stm8.specs.Effects.{bytesWide}
+use Rattle.stm8.specs.declared.Width.{Width}
+use Rattle.stm8.specs.declared.Width.the-variants.{Byte, Word}
+use Rattle.stm8.specs.declared.Place.{Place}
+use Rattle.stm8.specs.declared.Place.the-variants.{Nowhere, Direct, OnStack, Pushed}
+use Rattle.stm8.specs.declared.Effect.{Effect}
+use Rattle.image.specs.declared.Limits.{Limits}
+use Rattle.image.specs.Rules.{Within, LimitsRules}
+use Rattle.machine.specs.Step.{moveTrap, storeTrap, spAfter, bytesOfWidth, memoryAfter}
+use Rattle.acceptance.specs.Rules.{StoreRules}
+use Rattle.acceptance.proofs.Checks.{ends-granted}
+use Rattle.gate.specs.Guarantee.{Unchanged}
+use Rattle.gate.proofs.Stores.{sets-other}
+use Rattle.gate.proofs.Forms.{PushesOwn}
+use Rattle.gate.proofs.Frames.{Agree}
+
+-- where a routine of a need stands, in numbers: at SP and depth d its frame and return address are there, and what it may still use is
+pub record Room (limits : Limits) (total need sp d : ℕ) : Type 0 where
+  pub top : sp + d + 2 ≤ limits .stack .high
+  pub left : limits .stack .high + need ≤ sp + d + total
+  pub depth : d ≤ need
+  pub area : limits .stack .low + total ≤ limits .stack .high + 1
+
+bytes-length : (w : Width) (value : ℕ) → length (bytesOfWidth w value) ≡ bytesWide w
+bytes-length Byte value = refl
+bytes-length Word value = refl
+
+width-some : (w : Width) → 1 ≤ bytesWide w
+width-some Byte = omega arith
+width-some Word = omega arith
+
+size-kept : (memory : List ℕ) (sp : ℕ) (e : Effect) (value : ℕ) (place : Place) → length (memoryAfter memory sp e value place) ≡ length memory
+unfolding memoryAfter
+size-kept memory sp e value Nowhere = refl
+size-kept memory sp e value (Direct a w) = length-sets memory a (bytesOfWidth w value)
+size-kept memory sp e value (OnStack f w) = length-sets memory (sp + f) (bytesOfWidth w value)
+size-kept memory sp e value (Pushed w) = length-sets memory (spAfter sp e + 1) (bytesOfWidth w value)
+
+module _ (limits : Limits) (areas : LimitsRules limits) (total need sp d : ℕ) (room : Room limits total need sp d) where
+  -- 25 is not due
+  pub store-passes : (place : Place) → StoreRules limits d place → storeTrap limits sp place ≡ 0
+  unfolding storeTrap
+  store-passes Nowhere h = refl
+  store-passes (Direct address w) h =
+      let some = width-some w in
+      rw (ends-granted limits address (bytesWide w) (h .0) (omega (arith, h .1))) (unless-pass 25)
+  store-passes (OnStack f w) h =
+      under-pass f 1 25 (h .0) & under-pass (limits .stack .high + 1) (sp + f + bytesWide w) 25 (omega (arith, h .1, width-some w))
+  store-passes (Pushed w) h = refl
+
+  module _ (e : Effect) (own : e .pops ≤ d) (fits : d + e .pushes ≤ need + e .pops) where
+    -- 24 is not due
+    pub move-passes : moveTrap limits sp e ≡ 0
+    unfolding moveTrap
+    move-passes = under-pass _ _ 24 (omega arith) & under-pass _ _ 24 (omega arith)
+
+    -- a byte outside the grant and the routine's own stack bytes is as it was
+    kept : (place : Place) (value : ℕ) (memory : List ℕ) → StoreRules limits d place → PushesOwn place (e .pushes) → (address : ℕ) →
+        (Within (limits .grant) address → ⊥) → (limits .stack .high < address + total → address ≤ sp + d → ⊥) →
+        getD (memoryAfter memory sp e value place) address 0 ≡ getD memory address 0
+    unfolding memoryAfter
+    kept Nowhere value memory h p address grant stack = refl
+    kept (Direct a w) value memory h p address grant stack =
+        sets-other (bytesOfWidth w value) memory a address
+        (λ low high. grant (record { above = omega (arith, h .0); below = omega (arith, h .1, bytes-length w value, width-some w) }))
+    kept (OnStack f w) value memory h p address grant stack =
+        sets-other (bytesOfWidth w value) memory (sp + f) address
+        (λ low high. stack (omega arith) (omega (arith, h .1, bytes-length w value, width-some w)))
+    kept (Pushed w) value memory h p address grant stack =
+        sets-other (bytesOfWidth w value) memory (spAfter sp e + 1) address
+        (λ low high. stack (omega (arith, areas .stackLow)) (omega (arith, areas .stackLow, bytes-length w value)))
+
+    -- so the frames above are as they were, and so is what must not change
+    module _ (place : Place) (value : ℕ) (memory : List ℕ) (store : StoreRules limits d place) (pushes : PushesOwn place (e .pushes)) where
+      pub agrees : Agree limits (sp + d) memory (memoryAfter memory sp e value place)
+      agrees address low high =
+          kept place value memory store pushes address
+          (λ grant. areas .apart address grant (record { above = omega arith; below = high })) (λ p q. omega arith)
+
+      pub unchanged : Unchanged limits total memory (memoryAfter memory sp e value place)
+      unchanged =
+          record {
+            size = size-kept memory sp e value place;
+            same = λ address grant top.
+                kept place value memory store pushes address grant (λ p q. top (record { above = p; below = omega arith }));
+          }

@@ -1,0 +1,70 @@
+-- The guarantee of one image, so that it speaks of something: two routines with a call, a loop, a store in the grant and one on the stack.
+--
+--     8000 PUSH A; LD ($01,SP),A; POP A; RET
+--     8005 CALL $8000; LD $10,A; DEC A; JRNE $8005; RET
+use Prim.Native.Nat.{ℕ, zero, suc, _<_}
+use mathlib.Core.Path.{_≡_, refl}
+use mathlib.Core.Bool.{Bool, true, false, cond, false≢true}
+use mathlib.Core.List.{List, [], _∷_}
+use native.Mathlib.Omega.{arith}
+use lib.Dec.{ltb}
+use lib.ListN.{length, getD, replicate}
+use borrow.Author.Tests.{eq-eqb, ltb-true}
+use Rattle.numbers.specs.Checks as Checks
+use Rattle.numbers.specs.Words as Words
+use Rattle.numbers.specs.Folds as Folds
+use Rattle.numbers.specs.Lists as Lists
+use Rattle.numbers.proofs.Checking.{by-cond}
+use Rattle.stm8.specs.Decoding.{decoded}
+use Rattle.stm8.specs.Effects.{relative}
+use Rattle.image.specs.Image as Image
+use Rattle.image.specs.Validation as Validation
+use Rattle.image.specs.Access.{granted}
+use Rattle.image.specs.declared.Limits.{Limits}
+use Rattle.checker.specs.Depth as Depth
+use Rattle.checker.specs.Sweep as Sweep
+use Rattle.checker.specs.Check as Check
+use Rattle.checker.specs.declared.Verdict.the-variants.{Accepted}
+use Rattle.gate.specs.Start.{started}
+use Rattle.gate.specs.History.{Request, pointStarted, history}
+use Rattle.gate.specs.Guarantee.{All, Allowed, Holds}
+use Rattle.gate.proofs.Guarantee.{guarantee}
+
+abbrev pub sample : List ℕ
+sample =
+    0x53 ∷ 0x4C ∷ 0x55 ∷ 0x00 ∷ 0x01 ∷ 0x80 ∷ 0x00 ∷ 0x02 ∷ 0x00 ∷ 0x05 ∷ 0x00 ∷ 0x09 ∷
+    0x88 ∷ 0x6B ∷ 0x01 ∷ 0x84 ∷ 0x81 ∷
+    0xCD ∷ 0x80 ∷ 0x00 ∷ 0xB7 ∷ 0x10 ∷ 0x4A ∷ 0x26 ∷ 0xF8 ∷ 0x81 ∷ []
+
+abbrev pub limits : Limits
+limits = record { grant = record { low = 0x0000; high = 0x00FF }; stack = record { low = 0x03FB; high = 0x03FF } }
+
+sample-accepted : Check.checked sample limits (replicate 14 0) .0 ≡ Accepted 5 9
+unfolding Check.checked Folds.firstIn Folds.total Checks.first Checks.both Checks.under Checks.unless Checks.differ Lists.same Words.word
+    Words.wordAt decoded relative granted Image.versionOf Image.baseOf Image.countOf Image.lengthsOf Image.lengthAt Image.codeAt
+    Image.codeOf Image.sizeOf Image.layoutOf Image.startOf Image.endOf Image.mainOf Validation.areaCheck Validation.apartCheck
+    Validation.limitsCheck Validation.markCheck Validation.versionCheck Validation.lengthCheck Validation.lengthsCheck
+    Validation.layoutCheck Validation.refusal Validation.validated Depth.popped Depth.pushed Depth.after Sweep.reachCheck Sweep.agreeCheck
+    Sweep.insideCheck Sweep.depthCheck Sweep.storeCheck Sweep.jumpCheck Sweep.beginning Sweep.callee Sweep.callCheck Sweep.flowCheck
+    Sweep.offEndCheck Sweep.instructionCheck Sweep.moved Sweep.decodedAt Sweep.bytesAt Sweep.startAt Sweep.startsFrom Sweep.routineSwept
+    Sweep.routinesFrom Check.swept Check.reportedNeed Check.verdict Check.codeChecked
+sample-accepted = refl
+
+-- every element is below 256
+abbrev bytes : List ℕ → Bool
+bytes [] = true
+bytes (b ∷ rest) = cond (ltb b 256) (bytes rest) false
+
+bytes-below : (s : List ℕ) → bytes s ≡ true → (k : ℕ) → getD s k 0 < 256
+bytes-below [] e k = omega arith
+bytes-below (b ∷ rest) e zero = by-cond (ltb b 256) (λ t u. ltb-true b 256 t) (λ t u. absurd (false≢true u)) e
+bytes-below (b ∷ rest) e (suc k) = by-cond (ltb b 256) (λ t u. bytes-below rest u k) (λ t u. absurd (false≢true u)) e
+
+module _ (memory : List ℕ) (size : length memory ≡ 32768) (a x y cc : ℕ) where
+  sample-started : started sample limits (replicate 14 0) memory a x y cc .started .verdict ≡ Accepted 5 9
+  unfolding started
+  sample-started = rw (eq-eqb (length memory) 32768 size, sample-accepted)
+
+  pub sample-holds : (calls : List Request) → All (Allowed (record { image = sample; limits = limits })) calls →
+      All (Holds sample limits 5 memory) (history calls (pointStarted (started sample limits (replicate 14 0) memory a x y cc)))
+  sample-holds = guarantee sample (bytes-below sample refl) limits (replicate 14 0) memory a x y cc 5 9 sample-started

@@ -1,0 +1,32 @@
+-- `gate::main_address` meets its contract.
+use borrow.Author.Needs.{needs}
+use denote.Ref.{now}
+use native.Mathlib.Omega.{arith}
+use Rattle.gate.proofs.MainPlace.{MainPlace, some-routine, main-place}
+use Rattle.gate.proofs.main_address.Statement.{statement}
+use Rattle.gate.proofs.main_address.Tie as tie
+
+place : (c : tie.After-routine-length) →
+    MainPlace (now (c .before .before .before .before .args .image)) (c .before .before .word-at .result) (c .before .byte-at .result) (c .routine-length .result)
+place c =
+    let c4 = c .before .before .before .before in
+    main-place (now (c4 .args .image)) (c4 .pre) _ _ _ (c .before .before .word-at .ensures) (c .before .byte-at .ensures) (c .routine-length .ensures)
+
+pub main-address-spec : {M : Type 1} → statement M
+main-address-spec =
+    tie.close
+    (tie.spec
+    (λ c κs. search needs)
+    (λ c. search needs)
+    (λ c κs. search needs)
+    (λ c. search needs)
+    (λ c. some-routine (now (c .before .before .before .args .image)) (c .before .before .before .pre) _ (c .byte-at .ensures))
+    (λ c κs. search needs)
+    (λ c. search needs)
+    (λ c. search needs)
+    (λ c. omega (arith, place c))
+    (λ c. search needs)
+    (λ c. omega (arith, place c))
+    (λ c. omega (arith, place c))
+    (λ c. omega (arith, place c))
+    (λ c. omega (arith, place c)))

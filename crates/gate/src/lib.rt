@@ -1,0 +1,106 @@
+// Starting a gate routine; check, step and run beside it.
+ghost use mathlib.Core.Path.{_≡_};
+ghost use Prim.Native.Nat.{_+_, _≤_, _<_};
+ghost use lib.ListN.{length};
+ghost use Rattle.image.specs.Image.{baseOf, startOf, mainOf};
+ghost use Rattle.image.specs.Rules.{ImageRules};
+ghost use Rattle.gate.specs.Start.{started, zeros, begun, cleared};
+pub use checker::Verdict;
+pub use checker::check;
+pub use image::Area;
+pub use image::Limits;
+use image::routine_length;
+pub use machine::Ran;
+pub use machine::Registers;
+pub use machine::RunAnswer;
+pub use machine::StepAnswer;
+pub use machine::Stepped;
+use numbers::words::byte_at;
+use numbers::words::word_at;
+
+// What starting answers: the check's verdict, or 17, and the registers to go on from, all 0 where it is refused.
+pub struct Started {
+    pub verdict: Verdict,
+    pub registers: Registers,
+}
+
+// The answer of a refused start: all registers 0.
+fn refused(verdict: Verdict) -> Started
+    ensures { λ r. ⌜ r ≡ record { verdict = verdict; registers = zeros } ⌝ }
+{
+    let registers = Registers {
+        a: 0,
+        x: 0,
+        y: 0,
+        cc: 0,
+        sp: 0,
+        pc: 0,
+    };
+    Started { verdict, registers }
+}
+
+// The address of main's first byte: main ends with the code.
+fn main_address(image: &[u8]) -> u32
+    requires { ⌜ ImageRules (now image) ⌝ }
+    ensures { λ r. ⌜ r ≡ baseOf (now (image .entry)) + startOf (now (image .entry)) (mainOf (now (image .entry))) ⌝ }
+{
+    let base = word_at(image, 5) as usize;
+    let count = byte_at(image, 7) as usize;
+    let main = routine_length(image, count - 1) as usize;
+    (base + image.len() - 8 - 2 * count - main) as u32
+}
+
+// 00 to the top two stack bytes, SP two below stack high and PC at main.
+fn begin(
+    image: &[u8],
+    limits: Limits,
+    memory: &mut [u8],
+    a: u8,
+    x: u16,
+    y: u16,
+    cc: u8,
+) -> Registers
+    requires { ⌜ ImageRules (now image) ⌝ }
+    requires { ⌜ (2 ≤ limits .stack .high) × (limits .stack .high < length (now memory)) ⌝ }
+    ensures { λ r. ⌜ r ≡ begun (now (image .entry)) limits a x y cc ⌝ }
+    ensures { λ r. ⌜ now (memory .exit) ≡ cleared limits (now (memory .entry)) ⌝ }
+{
+    let stack = limits.stack;
+    let top = stack.high as usize;
+    memory[top - 1] = 0;
+    memory[top] = 0;
+    Registers {
+        a,
+        x,
+        y,
+        cc,
+        sp: stack.high - 2,
+        pc: main_address(image),
+    }
+}
+
+// Starts a gate routine: 17, then the whole check; accepted, main is ready to run.
+pub fn start(
+    image: &[u8],
+    limits: Limits,
+    marks: &mut [u16],
+    memory: &mut [u8],
+    a: u8,
+    x: u16,
+    y: u16,
+    cc: u8,
+) -> Started
+    ensures { λ r. ⌜ started (now (image .entry)) limits (now (marks .entry)) (now (memory .entry)) a x y cc ≡ record { started = r; marks = now (marks .exit); memory = now (memory .exit) } ⌝ }
+{
+    if memory.len() != 32768 {
+        return refused(Verdict::Refused(17, 0));
+    }
+    let verdict = check(image, limits, marks);
+    match verdict {
+        Verdict::Refused(_, _) => refused(verdict),
+        Verdict::Accepted(_, _) => {
+            let registers = begin(image, limits, memory, a, x, y, cc);
+            Started { verdict, registers }
+        }
+    }
+}

@@ -1,0 +1,5 @@
+pub mod ReadLaws
+pub mod StepLaws
+pub mod StepEffect
+pub mod RunLaws
+pub mod RunEnds

@@ -1,0 +1,128 @@
+-- `machine::Registers::run` meets its contract. The loop's invariant: the steps made and then a run with the steps left are the whole run.
+use Prim.Native.Nat.{ℕ, _+_, _-_, _≤_}
+use mathlib.Core.Path.{_≡_, refl, sym, _∙_, ap}
+use mathlib.Core.Logic.{⊎-elim}
+use native.Mathlib.Omega.{arith}
+use denote.Ref.{now}
+use lib.ListN.{length}
+use borrow.Author.Needs.{needs}
+use Rattle.machine.specs.Step.{stepRefusal}
+use Rattle.machine.specs.Run.{ran}
+use Rattle.machine.proofs.StepLaws.{same-refusal}
+use Rattle.machine.proofs.RunLaws.{after, after-none, out-finished, out-spent, run-on, run-finished, run-trapped, run-refused, ends}
+use Rattle.machine.proofs.Registers.run.Statement.{statement}
+use Rattle.machine.proofs.Registers.run.Tie as tie
+
+abbrev Inv-loop : tie.InvT-loop
+Inv-loop image layout limits memory₀ budget plain after72 after90 registers₀ left₀ memory registers left =
+    (left ≤ budget) ×
+    (length memory ≡ length memory₀) ×
+    (after (budget - left) (ran left image limits registers memory) ≡ ran budget image limits registers₀ memory₀)
+
+abbrev μ-loop : tie.MeasureT-loop
+μ-loop image layout limits memory₀ budget plain after72 after90 registers₀ left₀ memory registers left = left
+
+loop-holds : tie.Need-loop-holds Inv-loop μ-loop
+loop-holds c =
+    let a = c .before .before .before .before .before .args in
+    let e : a .budget - a .budget ≡ 0 = omega arith in
+    (omega arith, refl, rw e (after-none (ran (a .budget) (now (a .image)) (a .limits) (a .self) (now (a .memory)))))
+
+step-requires : tie.Need-step-requires Inv-loop μ-loop
+step-requires c κs = (
+  c .before .before .before .before .before .before .before .before .before .before .before .pre .0,
+  (c .before .before .before .before .before .before .before .before .plain-lengths .ensures, c .before .before .before .before .before .before .before .after-72-lengths .ensures, c .before .before .before .before .before .before .after-90-lengths .ensures),
+)
+
+loop-again : tie.Need-loop-again Inv-loop μ-loop
+loop-again c =
+    let v = c .before .before .before .before .before .before .before .before .before .before .before .loop in
+    let start = c .before .before .before .before .before .before .before .before .before .before .before .before .before .before .before .before .before in
+    let a = start .args in
+    let s = c .before .before .before .before .before .step in
+    let some = c .before .before .before .before .before .before .before .before .before .before .if1 .left in
+    let within = v .inv .0 in
+    let h : v .left ≡ v .left - 1 + 1 = omega arith in
+    let e : a .budget - (v .left - 1) ≡ a .budget - v .left + 1 = omega arith in (
+      omega arith,
+      s .kept .1 .1 .1 .1 .0 ∙ v .inv .1,
+      rw e
+          (sym
+          (run-on (now (a .image)) (a .limits) (a .budget - v .left) (v .registers) (v .memory)
+          (same-refusal (now (a .image)) (a .limits) (now (a .memory)) (v .memory) (v .inv .1) ∙ start .pre .1)
+          (v .left) (v .left - 1) h (s .result) _ (s .ensures) (c .enum-told .given .1)) ∙
+          v .inv .2),
+    )
+
+sub-t26 : tie.Need-sub-t26 Inv-loop μ-loop
+sub-t26 c = c .before .loop .inv .0
+
+same-length : tie.Need-same-length Inv-loop μ-loop
+same-length c =
+    let v = c .before .loop in
+    ⊎-elim (λ w. ap length (w .3) ∙ v .inv .1)
+    (⊎-elim (λ w. ap length (w .3) ∙ v .inv .1)
+    (⊎-elim (λ w. ap length (w .11) ∙ w .5 .kept .1 .1 .1 .1 .0 ∙ v .inv .1)
+    (⊎-elim (λ w. ap length (w .12) ∙ w .5 .kept .1 .1 .1 .1 .0 ∙ v .inv .1)
+    (λ w. ap length (w .12) ∙ w .5 .kept .1 .1 .1 .1 .0 ∙ v .inv .1))))
+    (c .if1 .came)
+
+returns : tie.Need-returns Inv-loop μ-loop
+returns c =
+    let v = c .before .loop in
+    let start = c .before .before .before .before .before .before .before in
+    let a = start .args in
+    let k = a .budget - v .left in
+    let accepted : stepRefusal (now (a .image)) (a .limits) (v .memory) ≡ 0 =
+    same-refusal (now (a .image)) (a .limits) (now (a .memory)) (v .memory) (v .inv .1) ∙ start .pre .1 in
+    ⊎-elim
+    (λ w. ends _ _ (v .inv .2)
+    (out-finished (now (a .image)) (a .limits) k (v .registers) (v .memory) accepted (v .left) (w .0 .taken) (w .2 .taken))
+    (w .5) (w .4) (w .3))
+    (⊎-elim
+    (λ w. ends _ _ (v .inv .2)
+    (out-spent (now (a .image)) (a .limits) k (v .registers) (v .memory) accepted (v .left) (w .0 .taken) (w .2 .left))
+    (w .5) (w .4) (w .3))
+    (⊎-elim
+    (λ w.
+    let h : v .left ≡ v .left - 1 + 1 = omega (arith, w .0 .left) in
+    ends _ _ (v .inv .2)
+    (run-finished (now (a .image)) (a .limits) k (v .registers) (v .memory) accepted (v .left) (v .left - 1) h (w .5 .result) _ (w .5 .ensures)
+    (w .10 .given .1))
+    (w .13) (w .12) (w .11))
+    (⊎-elim
+    (λ w.
+    let h : v .left ≡ v .left - 1 + 1 = omega (arith, w .0 .left) in
+    ends _ _ (v .inv .2)
+    (run-trapped (now (a .image)) (a .limits) k (v .registers) (v .memory) accepted (v .left) (v .left - 1) h (w .5 .result) _ (w .5 .ensures) _
+    (w .10 .given .1))
+    (w .14) (w .13) (w .12))
+    (λ w.
+    let h : v .left ≡ v .left - 1 + 1 = omega (arith, w .0 .left) in
+    ends _ _ (v .inv .2)
+    (run-refused (now (a .image)) (a .limits) k (v .registers) (v .memory) accepted (v .left) (v .left - 1) h (w .5 .result) _ (w .5 .ensures) _
+    (w .10 .given .1))
+    (w .14) (w .13) (w .12)))))
+    (c .if1 .came)
+
+pub run-spec : {M : Type 1} → statement M
+run-spec =
+    tie.close
+    (tie.spec
+    Inv-loop
+    μ-loop
+    (λ c κs. search needs)
+    (λ c κs. search needs)
+    (λ c κs. search needs)
+    loop-holds
+    step-requires
+    (λ c. search needs)
+    (λ c. search needs)
+    (λ c. search needs)
+    loop-again
+    (λ c. search needs)
+    (λ c. search needs)
+    (λ c. search needs)
+    sub-t26
+    same-length
+    returns)

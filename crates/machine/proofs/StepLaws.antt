@@ -1,0 +1,173 @@
+-- The ways through a step, each a law with plain hypotheses.
+use Prim.Native.Nat.{ℕ, _+_, _-_, _≤_, _<_}
+use mathlib.Core.Path.{_≡_, refl, sym, ap, _∙_}
+use mathlib.Core.Bool.{Bool, true, false, cond}
+use mathlib.Core.List.{List, [], _∷_}
+use mathlib.Core.Logic.{⊎-elim}
+use native.Mathlib.Omega.{arith}
+use lib.Dec.{eqb, ltb}
+use lib.ListN.{length, getD, drop}
+use lib.Seq.{drop-drop}
+use borrow.Author.Tests.{eqb-true, eqb-false, ne-eqb}
+use Rattle.numbers.specs.Checks.{first, under}
+use Rattle.numbers.proofs.Checking.{first-zero, under-zero}
+use Rattle.numbers.proofs.Folding.{passed}
+use Rattle.stm8.specs.OpcodeMap.{Page, Plain, After72, After90}
+use Rattle.stm8.specs.Decoding.{pageOf, lengths, tables, decoded, decodedBy}
+use Rattle.stm8.proofs.Lengths.{in-page}
+use Rattle.stm8.specs.Effects.{relative, bytesWide, effect}
+use Rattle.stm8.specs.declared.Width.{Width}
+use Rattle.stm8.specs.declared.Width.the-variants.{Byte, Word}
+use Rattle.stm8.specs.declared.Effect.{Effect}
+use Rattle.stm8.specs.declared.Instruction.{Instruction}
+use Rattle.stm8.specs.declared.Decoded.{Decoded}
+use Rattle.stm8.specs.declared.Decoded.the-variants.{Found, Outside, Truncated}
+use Rattle.image.specs.declared.Limits.{Limits}
+use Rattle.image.specs.declared.Layout.{Layout}
+use Rattle.image.specs.declared.Validated.the-variants as Validated
+use Rattle.image.specs.Image.{baseOf, codeAt, codeOf, layoutOf}
+use Rattle.image.specs.Validation.{answer, validated}
+use Rattle.image.proofs.ValidLayout.{ValidLayout, valid-bounds}
+use Rattle.machine.specs.Computing.{computed}
+use Rattle.machine.specs.Step.{result, spTrap, pcTrap, moveTrap, effectTrap, memoryAfter, registersAfter, made, decodingTrap, decodedStep, stepValid, stepRefusal, stepped}
+use Rattle.machine.specs.declared.Registers.{Registers}
+use Rattle.machine.specs.declared.Computed.{Computed}
+use Rattle.machine.specs.declared.StepAnswer.the-variants.{Made, Finished, Trap, Refused}
+
+module _ (image : List ℕ) (limits : Limits) (regs : Registers) (memory : List ℕ) where
+  pub step-refused : (number : ℕ) → stepRefusal image limits memory ≡ number → (number ≡ 0 → ⊥) →
+      stepped image limits regs memory ≡ result (Refused number) regs memory
+  unfolding stepped
+  step-refused number e some = rw (e, ne-eqb number 0 some)
+
+  pub step-valid : stepRefusal image limits memory ≡ 0 → stepped image limits regs memory ≡ stepValid image limits regs memory
+  unfolding stepped
+  step-valid e = rw e
+
+  -- of a valid image
+  pub finished : eqb (regs .pc) 0 ≡ true → stepValid image limits regs memory ≡ result Finished regs memory
+  unfolding stepValid
+  finished at-zero = rw at-zero
+
+  pub trapped-early : eqb (regs .pc) 0 ≡ false →
+      (trap : ℕ) → trap ≡ first (spTrap limits (regs .sp)) (pcTrap image (regs .pc)) → eqb trap 0 ≡ false →
+      stepValid image limits regs memory ≡ result (Trap trap) regs memory
+  unfolding stepValid
+  trapped-early on trap is some = rw (on, ← is, some)
+
+  pub decodes : eqb (regs .pc) 0 ≡ false →
+      (trap : ℕ) → trap ≡ first (spTrap limits (regs .sp)) (pcTrap image (regs .pc)) → eqb trap 0 ≡ true →
+      stepValid image limits regs memory ≡ decodedStep image limits regs memory (decoded (drop (regs .pc - baseOf image) (codeOf image)))
+  unfolding stepValid
+  decodes on trap is none = rw (on, ← is, none)
+
+  -- what was decoded is an instruction
+  module _ (i : Instruction) (n trap : ℕ) (is : trap ≡ effectTrap limits (regs .sp) (regs .pc + n) (effect i)) where
+    pub trapped-late : eqb trap 0 ≡ false → decodedStep image limits regs memory (Found i n) ≡ result (Trap trap) regs memory
+    unfolding decodedStep
+    trapped-late some = rw (← is, some)
+
+    pub makes : eqb trap 0 ≡ true → decodedStep image limits regs memory (Found i n) ≡ made image regs memory (regs .pc + n) i
+    unfolding decodedStep
+    makes none = rw (← is, none)
+
+  -- the instruction is made, by what it computes and its effect
+  pub made-by : (i : Instruction) (next : ℕ) (c : Computed) (e : Effect) → c ≡ computed image memory regs next i → e ≡ effect i →
+      made image regs memory next i ≡
+      result Made (registersAfter image memory regs next c e) (memoryAfter memory (regs .sp) e (c .stored) (e .place))
+  unfolding made
+  made-by i next c e p q = rw (p, q)
+
+-- what gives no instruction
+pub undecoded : (image : List ℕ) (limits : Limits) (regs : Registers) (memory : List ℕ) (d : Decoded) →
+    types.Run.OneOf (1 ∷ 2 ∷ []) (denote.Enum.Declared.tagOf Rattle.stm8.proofs.Decoded.the-type d) →
+    decodedStep image limits regs memory d ≡ result (Trap (decodingTrap d)) regs memory
+unfolding decodedStep
+undecoded image limits regs memory (Found i n) h = absurd (⊎-elim (λ e. omega arith) (λ e. omega arith) h)
+undecoded image limits regs memory Outside h = refl
+undecoded image limits regs memory Truncated h = refl
+
+-- what validation answers
+module _ (image : List ℕ) (limits : Limits) (memory : List ℕ) where
+  refused-as : (n : ℕ) (layout : Layout) (number : ℕ) → answer n layout ≡ Validated.Refused number → (n ≡ number) × (number ≡ 0 → ⊥)
+  refused-as n layout number = go (eqb n 0) refl
+    where
+      go : (t : Bool) → eqb n 0 ≡ t → cond t (Validated.Valid layout) (Validated.Refused n) ≡ Validated.Refused number → (n ≡ number) × (number ≡ 0 → ⊥)
+      go true p e = let z : _≡_ {A = ℕ} 0 1 = cc in absurd (omega arith)
+      go false p e = let same : n ≡ number = cc in (same, λ z. eqb-false n 0 p (same ∙ z))
+
+  valid-as : (n : ℕ) (layout found : Layout) → answer n layout ≡ Validated.Valid found → (n ≡ 0) × (found ≡ layout)
+  valid-as n layout found = go (eqb n 0) refl
+    where
+      go : (t : Bool) → eqb n 0 ≡ t → cond t (Validated.Valid layout) (Validated.Refused n) ≡ Validated.Valid found → (n ≡ 0) × (found ≡ layout)
+      go true p e = let same : found ≡ layout = cc in (eqb-true n 0 p, same)
+      go false p e = let z : _≡_ {A = ℕ} 0 1 = cc in absurd (omega arith)
+
+  pub refuses : (number : ℕ) → answer (stepRefusal image limits memory) (layoutOf image) ≡ Validated.Refused number →
+      (stepRefusal image limits memory ≡ number) × (number ≡ 0 → ⊥)
+  refuses number e = refused-as _ _ number e
+
+  pub accepts : (layout : Layout) → answer (stepRefusal image limits memory) (layoutOf image) ≡ Validated.Valid layout →
+      (stepRefusal image limits memory ≡ 0) × ValidLayout image layout
+  unfolding stepRefusal validated
+  accepts layout e =
+      let is = valid-as _ _ layout e in
+      let valid : validated image limits ≡ Validated.Valid layout = rw (first-zero _ _ (is .0) .1) (ap Validated.Valid (sym (is .1))) in
+      (is .0, valid-bounds image limits layout valid)
+
+  -- only the length of memory counts
+  pub same-refusal : (memory′ : List ℕ) → length memory′ ≡ length memory → stepRefusal image limits memory′ ≡ stepRefusal image limits memory
+  unfolding stepRefusal
+  same-refusal memory′ e = rw e
+
+-- PC in the code, by the layout
+module _ (image : List ℕ) (layout : Layout) (is : layout ≡ layoutOf image) (pc : ℕ) where
+  pub pc-trap-is : first (under pc (layout .base) 22) (under (layout .base + layout .size) (pc + 1) 22) ≡ pcTrap image pc
+  unfolding pcTrap layoutOf
+  pc-trap-is = ap (λ (l : Layout). first (under pc (l .base) 22) (under (l .base + l .size) (pc + 1) 22)) is
+
+  pub pc-inside : pcTrap image pc ≡ 0 → (layout .base ≤ pc) × (pc < layout .base + layout .size)
+  pc-inside none =
+      let checks = first-zero _ _ (pc-trap-is ∙ none) in
+      let below : pc + 1 ≤ layout .base + layout .size = under-zero _ _ 21 (checks .1) in
+      (under-zero _ _ 21 (checks .0), omega arith)
+
+  pub code-from : drop (layout .code + (pc - layout .base)) image ≡ drop (pc - baseOf image) (codeOf image)
+  unfolding layoutOf codeOf
+  code-from =
+      ap (λ (l : Layout). drop (l .code + (pc - l .base)) image) is ∙ sym (drop-drop (pc - baseOf image) (codeAt image) image)
+
+module _ (image : List ℕ) (layout : Layout) (valid : ValidLayout image layout) (pc : ℕ) (inside : pcTrap image pc ≡ 0) where
+  pub index-inside : layout .code + (pc - layout .base) ≤ length image
+  index-inside = let bounds = pc-inside image layout (valid .is) pc inside in omega (arith, valid .end)
+
+  pub next-small : (n : ℕ) → n ≤ 5 → pc + n < 0x1000000
+  next-small n few = let bounds = pc-inside image layout (valid .is) pc inside in omega (arith, valid .top)
+
+-- decoding by tables that hold the lengths
+module _ (plain after72 after90 : List ℕ) (p : plain ≡ lengths Plain) (a : after72 ≡ lengths After72) (b : after90 ≡ lengths After90) where
+  hold : (page : Page) → tables plain after72 after90 page ≡ lengths page
+  hold Plain = p
+  hold After72 = a
+  hold After90 = b
+
+  pub decoded-by-tables : (s : List ℕ) → ((k : ℕ) → getD s k 0 < 256) → decodedBy (tables plain after72 after90) s ≡ decoded s
+  unfolding decodedBy decoded
+  decoded-by-tables s bytes = in-page s bytes (pageOf (getD s 0 0)) (tables plain after72 after90) (hold (pageOf (getD s 0 0)))
+
+-- no trap 24: SP with the pops is inside the stack
+pub pops-fit : (limits : Limits) (sp next : ℕ) (e : Effect) → effectTrap limits sp next e ≡ 0 → sp + e .pops ≤ limits .stack .high
+unfolding effectTrap moveTrap
+pops-fit limits sp next e none = under-zero _ _ 23 (first-zero _ _ (passed _ none .0) .0)
+
+pub relative-most : (next offset : ℕ) → relative next offset ≤ next + offset
+unfolding relative
+relative-most next offset = go (ltb offset 128)
+  where
+    go : (t : Bool) → cond t (next + offset) (next + offset - 256) ≤ next + offset
+    go true = omega arith
+    go false = omega arith
+
+pub wide-most : (w : Width) → bytesWide w ≤ 2
+wide-most Byte = omega arith
+wide-most Word = omega arith

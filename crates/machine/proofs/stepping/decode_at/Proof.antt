@@ -1,0 +1,37 @@
+-- `machine::stepping::decode_at` meets its contract: the code from PC on is the image from an index on, and the tables hold the lengths.
+use Prim.Native.Nat.{_+_, _-_}
+use mathlib.Core.Path.{ap, _∙_}
+use denote.Ref.{now}
+use lib.ListN.{drop}
+use lib.Seq.{getD-drop}
+use borrow.Rule.Slice.PartAt.{part-to-end}
+use borrow.Author.Needs.{needs}
+use Rattle.stm8.specs.Decoding.{tables, decoded, decodedBy}
+use Rattle.machine.proofs.StepLaws.{pc-inside, index-inside, code-from, decoded-by-tables}
+use Rattle.machine.proofs.stepping.decode_at.Statement.{statement}
+use Rattle.machine.proofs.stepping.decode_at.Tie as tie
+
+returns : tie.Need-returns
+returns c =
+    let start = c .before .before .before .before .before in
+    let a = start .args in
+    let image = now (a .image) in
+    let at = a .layout .code + (a .pc - a .layout .base) in
+    c .decode-by .ensures ∙
+    ap (decodedBy (tables (now (a .plain)) (now (a .after72)) (now (a .after90)))) (part-to-end image at) ∙
+    decoded-by-tables (now (a .plain)) (now (a .after72)) (now (a .after90)) (start .pre .1 .1 .0) (start .pre .1 .1 .1) (start .pre .1 .1 .2) (drop at image)
+    (λ k. rw getD-drop (c .before .before .before .before .shared-slice-known .given (at + k) .fits)) ∙
+    ap decoded (code-from image (a .layout) (start .pre .0 .is) (a .pc))
+
+pub decode-at-spec : {M : Type 1} → statement M
+decode-at-spec =
+    tie.close
+    (tie.spec
+    (λ c. search needs)
+    (λ c. let start = c .before .before in pc-inside (now (start .args .image)) (start .args .layout) (start .pre .0 .is) (start .args .pc) (start .pre .1 .0) .0)
+    (λ c. search needs)
+    (λ c. let start = c .before .before .before in index-inside (now (start .args .image)) (start .args .layout) (start .pre .0) (start .args .pc) (start .pre .1 .0))
+    (λ c. let start = c .before .before .before in index-inside (now (start .args .image)) (start .args .layout) (start .pre .0) (start .args .pc) (start .pre .1 .0))
+    (λ c. search needs)
+    (λ c κs. search needs)
+    returns)

@@ -1,0 +1,4 @@
+pub mod Reading
+pub mod Computing
+pub mod Step
+pub mod Run

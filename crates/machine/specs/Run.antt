@@ -1,0 +1,46 @@
+-- A run: steps until the routine finishes, traps or the steps are used up.
+use Prim.Native.Nat.{ℕ, zero, suc, _+_}
+use mathlib.Core.Bool.{cond}
+use mathlib.Core.List.{List}
+use lib.Dec.{eqb}
+use Rattle.image.specs.declared.Limits.{Limits}
+use Rattle.machine.specs.Step.{stepped, stepRefusal}
+use Rattle.machine.specs.declared.Registers.{Registers}
+use Rattle.machine.specs.declared.StepAnswer.{StepAnswer}
+use Rattle.machine.specs.declared.StepAnswer.the-variants as Step
+use Rattle.machine.specs.declared.RunAnswer.{RunAnswer}
+use Rattle.machine.specs.declared.RunAnswer.the-variants.{Finished, Spent, Trap, Refused}
+use Rattle.machine.specs.declared.Ran.{Ran}
+
+abbrev pub ended : RunAnswer → Registers → List ℕ → Ran × List ℕ
+ended answer regs memory = (record { answer = answer; registers = regs; steps = 0 }, memory)
+
+-- one step more than a run
+abbrev pub oneMore : Ran × List ℕ → Ran × List ℕ
+oneMore r = (record { answer = r .0 .answer; registers = r .0 .registers; steps = r .0 .steps + 1 }, r .1)
+
+-- only a step that is made is counted, and the run goes on from it
+abbrev pub afterStep : StepAnswer → Registers → List ℕ → Ran × List ℕ → Ran × List ℕ
+afterStep Step.Made regs memory rest = oneMore rest
+afterStep Step.Finished regs memory rest = ended Finished regs memory
+afterStep (Step.Trap number) regs memory rest = ended (Trap number) regs memory
+afterStep (Step.Refused number) regs memory rest = ended (Refused number) regs memory
+
+-- no steps left: refused, finished where PC is 0, else spent
+unfoldable pub noStepsLeft : List ℕ → Limits → Registers → List ℕ → Ran × List ℕ
+noStepsLeft image limits regs memory =
+    let number = stepRefusal image limits memory in
+    cond (eqb number 0) (ended (cond (eqb (regs .pc) 0) Finished Spent) regs memory) (ended (Refused number) regs memory)
+
+unfoldable pub ran : ℕ → List ℕ → Limits → Registers → List ℕ → Ran × List ℕ
+ran zero image limits regs memory = noStepsLeft image limits regs memory
+ran (suc budget) image limits regs memory =
+    let s = stepped image limits regs memory in
+    afterStep (s .0 .answer) regs memory (ran budget image limits (s .0 .registers) (s .1))
+
+-- document 01's number of an answer: 0 where nothing was refused or trapped
+abbrev pub runNumber : RunAnswer → ℕ
+runNumber Finished = 0
+runNumber Spent = 0
+runNumber (Trap number) = number
+runNumber (Refused number) = number

@@ -1,0 +1,98 @@
+// The machine: registers, one step and a run.
+mod computing;
+mod moving;
+mod operands;
+mod operations;
+mod reading;
+mod results;
+mod running;
+mod stepping;
+mod traps;
+
+ghost use mathlib.Core.Path.{_≡_};
+ghost use Rattle.machine.specs.Step.{stepped};
+ghost use Rattle.machine.specs.Run.{ran};
+use image::Limits;
+use image::Validated;
+
+// PC has 24 bits and the others 8 or 16, as document 01 says.
+pub struct Registers {
+    pub a: u8,
+    pub x: u16,
+    pub y: u16,
+    pub cc: u8,
+    pub sp: u16,
+    pub pc: u32,
+}
+
+// What an instruction computes, apart from what it moves: the registers but SP and PC, the value that it stores, and whether its
+// condition holds.
+pub struct Computed {
+    pub a: u8,
+    pub x: u16,
+    pub y: u16,
+    pub cc: u8,
+    pub stored: u16,
+    pub taken: bool,
+}
+
+pub enum StepAnswer {
+    Made,
+    Finished,
+    Trap(u8),
+    Refused(u8),
+}
+
+pub struct Stepped {
+    pub answer: StepAnswer,
+    pub registers: Registers,
+}
+
+pub enum RunAnswer {
+    Finished,
+    Spent,
+    Trap(u8),
+    Refused(u8),
+}
+
+pub struct Ran {
+    pub answer: RunAnswer,
+    pub registers: Registers,
+    pub steps: u32,
+}
+
+// One step, from any registers and memory.
+pub fn step(image: &[u8], limits: Limits, registers: Registers, memory: &mut [u8]) -> Stepped
+    ensures { λ r. ⌜ stepped (now (image .entry)) limits registers (now (memory .entry)) ≡ (r, now (memory .exit)) ⌝ }
+{
+    let validated = stepping::validate(image, limits, memory);
+    match validated {
+        Validated::Refused(number) => registers.answer(StepAnswer::Refused(number)),
+        Validated::Valid(layout) => registers.step(
+            image,
+            layout,
+            limits,
+            memory,
+            &stm8::plain_lengths(),
+            &stm8::after_72_lengths(),
+            &stm8::after_90_lengths(),
+        ),
+    }
+}
+
+// Steps until the routine finishes, traps or the steps are used up.
+pub fn run(
+    image: &[u8],
+    limits: Limits,
+    registers: Registers,
+    memory: &mut [u8],
+    budget: u32,
+) -> Ran
+    ensures { λ r. ⌜ ran budget (now (image .entry)) limits registers (now (memory .entry)) ≡ (r, now (memory .exit)) ⌝ }
+{
+    let validated = stepping::validate(image, limits, memory);
+    match validated {
+        Validated::Refused(number) => registers.ended(RunAnswer::Refused(number)),
+        Validated::Valid(layout) => registers.run(image, layout, limits, memory, budget),
+    }
+}

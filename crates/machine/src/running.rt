@@ -1,0 +1,66 @@
+// A run of an image and limits that are valid.
+ghost use mathlib.Core.Path.{_≡_};
+ghost use Rattle.image.proofs.ValidLayout.{ValidLayout};
+ghost use Rattle.machine.specs.Step.{stepRefusal};
+ghost use Rattle.machine.specs.Run.{ran};
+use crate::Ran;
+use crate::Registers;
+use crate::RunAnswer;
+use crate::StepAnswer;
+use image::Layout;
+use image::Limits;
+
+impl Registers {
+    // An answer before any step.
+    pub fn ended(self, answer: RunAnswer) -> Ran
+        ensures { λ r. ⌜ r ≡ record { answer = answer; registers = self; steps = 0 } ⌝ }
+    {
+        Ran {
+            answer,
+            registers: self,
+            steps: 0,
+        }
+    }
+
+    // The length tables are built once and lent to each step.
+    pub fn run(
+        self,
+        image: &[u8],
+        layout: Layout,
+        limits: Limits,
+        memory: &mut [u8],
+        budget: u32,
+    ) -> Ran
+        requires valid { ⌜ ValidLayout (now image) layout ⌝ }
+        requires accepted { ⌜ stepRefusal (now image) limits (now memory) ≡ 0 ⌝ }
+        ensures { λ r. ⌜ ran budget (now (image .entry)) limits self (now (memory .entry)) ≡ (r, now (memory .exit)) ⌝ }
+    {
+        let plain = stm8::plain_lengths();
+        let after72 = stm8::after_72_lengths();
+        let after90 = stm8::after_90_lengths();
+        let mut registers = self;
+        let mut left = budget;
+        let answer = loop {
+            if left == 0 {
+                if registers.pc == 0 {
+                    break RunAnswer::Finished;
+                }
+                break RunAnswer::Spent;
+            }
+            let stepped = registers.step(image, layout, limits, memory, &plain, &after72, &after90);
+            let made = stepped.answer;
+            registers = stepped.registers;
+            match made {
+                StepAnswer::Made => left -= 1,
+                StepAnswer::Finished => break RunAnswer::Finished,
+                StepAnswer::Trap(number) => break RunAnswer::Trap(number),
+                StepAnswer::Refused(number) => break RunAnswer::Refused(number),
+            }
+        };
+        Ran {
+            answer,
+            registers,
+            steps: budget - left,
+        }
+    }
+}
