@@ -1,6 +1,5 @@
 // Depth, and what an instruction does to it.
 ghost use mathlib.Core.Path.{_≡_};
-ghost use mathlib.Core.Bool.{cond};
 ghost use Prim.Native.Nat.{_+_, _-_, _≤_, max};
 ghost use Rattle.checker.specs.Depth.{movesDepth, popped as poppedBy, pushed as pushedBy, after as afterOf, falls as fallsBy};
 use stm8::Effect;
@@ -13,6 +12,7 @@ pub fn less(a: usize, b: usize) -> usize
     if a < b { 0 } else { a - b }
 }
 
+// The larger of two numbers.
 pub fn larger(a: usize, b: usize) -> usize
     ensures { λ r. ⌜ r ≡ max a b ⌝ }
 {
@@ -33,6 +33,7 @@ fn moves_depth(flow: Flow) -> bool
     }
 }
 
+// The bytes of the routine's own that an instruction pops.
 pub fn popped(e: Effect) -> usize
     ensures { λ r. ⌜ r ≡ poppedBy e ⌝ }
 {
@@ -44,6 +45,7 @@ pub fn popped(e: Effect) -> usize
     }
 }
 
+// The bytes of the routine's own that an instruction pushes.
 pub fn pushed(e: Effect) -> usize
     ensures { λ r. ⌜ r ≡ pushedBy e ⌝ }
     ensures { λ r. ⌜ r ≤ 255 ⌝ }

@@ -3,6 +3,7 @@ ghost use mathlib.Core.Path.{_≡_};
 ghost use Prim.Native.Nat.{_≤_};
 ghost use lib.ListN.{length, getD, set, replicate};
 
+// A mark or a need as a number to reckon with.
 pub fn wide(x: u16) -> usize
     ensures { λ r. ⌜ r ≡ x ⌝ }
     ensures { λ r. ⌜ r ≤ 65535 ⌝ }
@@ -26,6 +27,7 @@ pub fn set_mark(marks: &mut [u16], at: usize, mark: u16)
     }
 }
 
+// Every mark is 0.
 pub fn clear(marks: &mut [u16])
     ensures { λ _. ⌜ now (marks .exit) ≡ replicate (length (now (marks .entry))) 0 ⌝ }
 {

@@ -89,6 +89,7 @@ fn mark_target(marks: &mut [u16], base: u16, next: usize, mark: u16, flow: Flow)
     }
 }
 
+// The state where a start is refused.
 fn refused(p: Progress, number: u8) -> Progress
     ensures { λ r. ⌜ r ≡ refusedWith p number ⌝ }
 {
