@@ -1,0 +1,108 @@
+-- What stands in the cells of a C caller's arrays.
+use Prim.Native.Nat.{ℕ, _%_}
+use mathlib.Core.List.{List, [], _∷_, _++_}
+use lib.ListN.{length, getD, drop, replicate}
+use Rattle.image.specs.declared.Limits.{Limits}
+use Rattle.checker.specs.Check.{numberOf, offsetOf, needOf, startsOf}
+use Rattle.checker.specs.declared.Verdict.{Verdict}
+use Rattle.machine.specs.Step.{stepped}
+use Rattle.machine.specs.Run.{ran}
+use Rattle.gate.specs.Start.{started}
+use Rattle.machine.specs.declared.Registers.{Registers}
+use Rattle.machine.specs.declared.StepAnswer.{StepAnswer}
+use Rattle.machine.specs.declared.StepAnswer.the-variants as Step
+use Rattle.machine.specs.declared.RunAnswer.{RunAnswer}
+use Rattle.machine.specs.declared.RunAnswer.the-variants.{Finished, Spent, Trap, Refused}
+use Rattle.stm8.specs.declared.Decoded.{Decoded}
+use Rattle.stm8.specs.declared.Decoded.the-variants.{Found, Outside, Truncated}
+use Rattle.disassembly.specs.Notation.{text}
+
+-- the four addresses of limits
+abbrev pub limits : ℕ → ℕ → ℕ → ℕ → Limits
+limits grantLow grantHigh stackLow stackHigh =
+    record { grant = record { low = grantLow; high = grantHigh }; stack = record { low = stackLow; high = stackHigh } }
+
+-- a report: offset, need and count
+abbrev pub reportCells : Verdict → List ℕ
+reportCells v = offsetOf v ∷ needOf v ∷ startsOf v ∷ []
+
+-- A, X, Y, CC, SP and PC, each by as many low bits as the register has (PC by all 32)
+abbrev pub registersIn : List ℕ → Registers
+registersIn cells =
+    record {
+      a = getD cells 0 0 % 256;
+      x = getD cells 1 0 % 65536;
+      y = getD cells 2 0 % 65536;
+      cc = getD cells 3 0 % 256;
+      sp = getD cells 4 0 % 65536;
+      pc = getD cells 5 0;
+    }
+
+abbrev pub registerCells : Registers → List ℕ
+registerCells r = r .a ∷ r .x ∷ r .y ∷ r .cc ∷ r .sp ∷ r .pc ∷ []
+
+-- an answer: the trap's or refusal's number, 0 made, 64 finished, 65 spent
+abbrev pub stepCode : StepAnswer → ℕ
+stepCode Step.Made = 0
+stepCode Step.Finished = 64
+stepCode (Step.Trap number) = number
+stepCode (Step.Refused number) = number
+
+abbrev pub runCode : RunAnswer → ℕ
+runCode Finished = 64
+runCode Spent = 65
+runCode (Trap number) = number
+runCode (Refused number) = number
+
+-- the length of what was decoded, and its text at an address, with 0 in every cell after it
+abbrev pub lengthOf : Decoded → ℕ
+lengthOf (Found i n) = n
+lengthOf Outside = 0
+lengthOf Truncated = 0
+
+abbrev pub textCells : ℕ → Decoded → List ℕ
+textCells address (Found i n) = text address i ++ drop (length (text address i)) (replicate 24 0)
+textCells address Outside = replicate 24 0
+textCells address Truncated = replicate 24 0
+
+-- what a call answers, and every cell that it may write
+pub record Started : Type 0 where
+  pub number : ℕ
+  pub report : List ℕ
+  pub registers : List ℕ
+  pub marks : List ℕ
+  pub memory : List ℕ
+
+-- starting, with the caller's A, X, Y and CC
+unfoldable pub startedCells : List ℕ → Limits → List ℕ → List ℕ → List ℕ → Started
+startedCells image limits marks memory cells =
+    let given = registersIn cells in
+    let s = started image limits marks memory (given .a) (given .x) (given .y) (given .cc) in
+    record {
+      number = numberOf (s .started .verdict);
+      report = reportCells (s .started .verdict);
+      registers = registerCells (s .started .registers);
+      marks = s .marks;
+      memory = s .memory;
+    }
+
+pub record Stepped : Type 0 where
+  pub number : ℕ
+  pub registers : List ℕ
+  pub memory : List ℕ
+
+unfoldable pub steppedCells : List ℕ → Limits → List ℕ → List ℕ → Stepped
+steppedCells image limits cells memory =
+    let s = stepped image limits (registersIn cells) memory in
+    record { number = stepCode (s .0 .answer); registers = registerCells (s .0 .registers); memory = s .1 }
+
+pub record Ran : Type 0 where
+  pub number : ℕ
+  pub registers : List ℕ
+  pub steps : List ℕ
+  pub memory : List ℕ
+
+unfoldable pub ranCells : ℕ → List ℕ → Limits → List ℕ → List ℕ → Ran
+ranCells budget image limits cells memory =
+    let r = ran budget image limits (registersIn cells) memory in
+    record { number = runCode (r .0 .answer); registers = registerCells (r .0 .registers); steps = r .0 .steps ∷ []; memory = r .1 }

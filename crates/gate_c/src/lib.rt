@@ -1,0 +1,257 @@
+// The gate for callers in C: numbers, slices and fixed arrays alone. include/gate.h has the declarations.
+ghost use mathlib.Core.Path.{_≡_};
+ghost use Rattle.checker.specs.Check.{checked, numberOf};
+ghost use Rattle.stm8.specs.Decoding.{decoded, decodingNumber};
+ghost use mathlib.Core.List.{[], _∷_};
+ghost use Rattle.gate_c.specs.Cells.{limits as limitsBy, registersIn, registerCells, reportCells, stepCode, runCode, lengthOf, textCells, startedCells, steppedCells, ranCells};
+use checker::Verdict;
+use checker::check;
+use decoder::decode;
+use disassembly::disassemble;
+use gate::start;
+use image::Area;
+use image::Limits;
+use machine::Registers;
+use machine::RunAnswer;
+use machine::StepAnswer;
+use machine::run;
+use machine::step;
+use stm8::Decoded;
+
+fn limits(grantlow: u16, granthigh: u16, stacklow: u16, stackhigh: u16) -> Limits
+    ensures { λ r. ⌜ r ≡ limitsBy grantlow granthigh stacklow stackhigh ⌝ }
+{
+    Limits {
+        grant: Area {
+            low: grantlow,
+            high: granthigh,
+        },
+        stack: Area {
+            low: stacklow,
+            high: stackhigh,
+        },
+    }
+}
+
+fn number(verdict: Verdict) -> u8
+    ensures { λ r. ⌜ r ≡ numberOf verdict ⌝ }
+{
+    match verdict {
+        Verdict::Accepted(_, _) => 0,
+        Verdict::Refused(number, _) => number,
+    }
+}
+
+// Offset, need and count.
+fn report_cells(verdict: Verdict) -> [u16; 3]
+    ensures { λ r. ⌜ r ≡ reportCells verdict ⌝ }
+{
+    match verdict {
+        Verdict::Accepted(need, count) => [0, need, count],
+        Verdict::Refused(_, offset) => [offset, 0, 0],
+    }
+}
+
+fn registers_in(cells: &[u32; 6]) -> Registers
+    ensures { λ r. ⌜ r ≡ registersIn (now (cells .entry)) ⌝ }
+{
+    Registers {
+        a: cells[0] as u8,
+        x: cells[1] as u16,
+        y: cells[2] as u16,
+        cc: cells[3] as u8,
+        sp: cells[4] as u16,
+        pc: cells[5],
+    }
+}
+
+fn register_cells(r: Registers) -> [u32; 6]
+    ensures { λ v. ⌜ v ≡ registerCells r ⌝ }
+{
+    [
+        r.a as u32,
+        r.x as u32,
+        r.y as u32,
+        r.cc as u32,
+        r.sp as u32,
+        r.pc,
+    ]
+}
+
+fn step_code(answer: StepAnswer) -> u8
+    ensures { λ r. ⌜ r ≡ stepCode answer ⌝ }
+{
+    match answer {
+        StepAnswer::Made => 0,
+        StepAnswer::Finished => 64,
+        StepAnswer::Trap(number) => number,
+        StepAnswer::Refused(number) => number,
+    }
+}
+
+fn run_code(answer: RunAnswer) -> u8
+    ensures { λ r. ⌜ r ≡ runCode answer ⌝ }
+{
+    match answer {
+        RunAnswer::Finished => 64,
+        RunAnswer::Spent => 65,
+        RunAnswer::Trap(number) => number,
+        RunAnswer::Refused(number) => number,
+    }
+}
+
+#[no_mangle]
+pub extern "C" fn gate_check(
+    image: &[u8],
+    grantlow: u16,
+    granthigh: u16,
+    stacklow: u16,
+    stackhigh: u16,
+    marks: &mut [u16],
+    report: &mut [u16; 3],
+) -> u8
+    ensures { λ r. ⌜ r ≡ numberOf (checked (now (image .entry)) (limitsBy grantlow granthigh stacklow stackhigh) (now (marks .entry)) .0) ⌝ }
+    ensures { λ _. ⌜ now (report .exit) ≡ reportCells (checked (now (image .entry)) (limitsBy grantlow granthigh stacklow stackhigh) (now (marks .entry)) .0) ⌝ }
+    ensures { λ _. ⌜ now (marks .exit) ≡ checked (now (image .entry)) (limitsBy grantlow granthigh stacklow stackhigh) (now (marks .entry)) .1 ⌝ }
+{
+    let verdict = check(
+        image,
+        limits(grantlow, granthigh, stacklow, stackhigh),
+        marks,
+    );
+    *report = report_cells(verdict);
+    number(verdict)
+}
+
+#[no_mangle]
+pub extern "C" fn gate_start(
+    image: &[u8],
+    grantlow: u16,
+    granthigh: u16,
+    stacklow: u16,
+    stackhigh: u16,
+    marks: &mut [u16],
+    memory: &mut [u8],
+    registers: &mut [u32; 6],
+    report: &mut [u16; 3],
+) -> u8
+    ensures { λ r. ⌜ startedCells (now (image .entry)) (limitsBy grantlow granthigh stacklow stackhigh) (now (marks .entry)) (now (memory .entry)) (now (registers .entry)) ≡ record { number = r; report = now (report .exit); registers = now (registers .exit); marks = now (marks .exit); memory = now (memory .exit) } ⌝ }
+{
+    let given = registers_in(registers);
+    let s = start(
+        image,
+        limits(grantlow, granthigh, stacklow, stackhigh),
+        marks,
+        memory,
+        given.a,
+        given.x,
+        given.y,
+        given.cc,
+    );
+    let verdict = s.verdict;
+    *registers = register_cells(s.registers);
+    *report = report_cells(verdict);
+    number(verdict)
+}
+
+#[no_mangle]
+pub extern "C" fn gate_step(
+    image: &[u8],
+    grantlow: u16,
+    granthigh: u16,
+    stacklow: u16,
+    stackhigh: u16,
+    memory: &mut [u8],
+    registers: &mut [u32; 6],
+) -> u8
+    ensures { λ r. ⌜ steppedCells (now (image .entry)) (limitsBy grantlow granthigh stacklow stackhigh) (now (registers .entry)) (now (memory .entry)) ≡ record { number = r; registers = now (registers .exit); memory = now (memory .exit) } ⌝ }
+{
+    let s = step(
+        image,
+        limits(grantlow, granthigh, stacklow, stackhigh),
+        registers_in(registers),
+        memory,
+    );
+    let answer = s.answer;
+    *registers = register_cells(s.registers);
+    step_code(answer)
+}
+
+#[no_mangle]
+pub extern "C" fn gate_run(
+    image: &[u8],
+    grantlow: u16,
+    granthigh: u16,
+    stacklow: u16,
+    stackhigh: u16,
+    memory: &mut [u8],
+    registers: &mut [u32; 6],
+    budget: u32,
+    steps: &mut [u32; 1],
+) -> u8
+    ensures { λ r. ⌜ ranCells budget (now (image .entry)) (limitsBy grantlow granthigh stacklow stackhigh) (now (registers .entry)) (now (memory .entry)) ≡ record { number = r; registers = now (registers .exit); steps = now (steps .exit); memory = now (memory .exit) } ⌝ }
+{
+    let ran = run(
+        image,
+        limits(grantlow, granthigh, stacklow, stackhigh),
+        registers_in(registers),
+        memory,
+        budget,
+    );
+    let answer = ran.answer;
+    *registers = register_cells(ran.registers);
+    steps[0] = ran.steps;
+    run_code(answer)
+}
+
+// The text of what was decoded, with 0 after it.
+fn text_cells(found: Decoded, address: u16) -> [u8; 24]
+    ensures { λ r. ⌜ r ≡ textCells address found ⌝ }
+{
+    let mut cells = [0u8; 24];
+    match found {
+        Decoded::Found(i, _) => {
+            disassemble(i, address, &mut cells[..]);
+            cells
+        }
+        Decoded::Outside => cells,
+        Decoded::Truncated => cells,
+    }
+}
+
+fn length_of(found: Decoded) -> usize
+    ensures { λ r. ⌜ r ≡ lengthOf found ⌝ }
+{
+    match found {
+        Decoded::Found(_, n) => n,
+        Decoded::Outside => 0,
+        Decoded::Truncated => 0,
+    }
+}
+
+fn decoding_number(found: Decoded) -> u8
+    ensures { λ r. ⌜ r ≡ decodingNumber found ⌝ }
+{
+    match found {
+        Decoded::Found(_, _) => 0,
+        Decoded::Outside => 8,
+        Decoded::Truncated => 9,
+    }
+}
+
+#[no_mangle]
+pub extern "C" fn gate_decode(
+    bytes: &[u8],
+    address: u16,
+    text: &mut [u8; 24],
+    length: &mut [usize; 1],
+) -> u8
+    ensures { λ r. ⌜ r ≡ decodingNumber (decoded (now (bytes .entry))) ⌝ }
+    ensures { λ _. ⌜ now (text .exit) ≡ textCells address (decoded (now (bytes .entry))) ⌝ }
+    ensures { λ _. ⌜ now (length .exit) ≡ lengthOf (decoded (now (bytes .entry))) ∷ [] ⌝ }
+{
+    let found = decode(bytes);
+    *text = text_cells(found, address);
+    length[0] = length_of(found);
+    decoding_number(found)
+}
