@@ -11,3 +11,4 @@ pub mod Starting
 pub mod MainPlace
 pub mod Guarantee
 pub mod Sample
+pub mod EveryState

@@ -15,6 +15,8 @@ pub use machine::Registers;
 pub use machine::RunAnswer;
 pub use machine::StepAnswer;
 pub use machine::Stepped;
+pub use machine::run;
+pub use machine::step;
 use numbers::words::byte_at;
 use numbers::words::word_at;
 
