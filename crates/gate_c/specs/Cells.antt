@@ -13,6 +13,7 @@ use Rattle.machine.specs.declared.StepAnswer.{StepAnswer}
 use Rattle.machine.specs.declared.StepAnswer.the-variants as Step
 use Rattle.machine.specs.declared.RunAnswer.{RunAnswer}
 use Rattle.machine.specs.declared.RunAnswer.the-variants.{Finished, Spent, Trap, Refused}
+use Rattle.stm8.specs.declared.Instruction.{Instruction}
 use Rattle.stm8.specs.declared.Decoded.{Decoded}
 use Rattle.stm8.specs.declared.Decoded.the-variants.{Found, Outside, Truncated}
 use Rattle.disassembly.specs.Notation.{text}
@@ -60,8 +61,11 @@ lengthOf (Found i n) = n
 lengthOf Outside = 0
 lengthOf Truncated = 0
 
+abbrev pub instructionText : ℕ → Instruction → List ℕ
+instructionText address i = text address i ++ drop (length (text address i)) (replicate 24 0)
+
 abbrev pub textCells : ℕ → Decoded → List ℕ
-textCells address (Found i n) = text address i ++ drop (length (text address i)) (replicate 24 0)
+textCells address (Found i n) = instructionText address i
 textCells address Outside = replicate 24 0
 textCells address Truncated = replicate 24 0
 

@@ -3,7 +3,7 @@ ghost use mathlib.Core.Path.{_≡_};
 ghost use Rattle.checker.specs.Check.{checked, numberOf};
 ghost use Rattle.stm8.specs.Decoding.{decoded, decodingNumber};
 ghost use mathlib.Core.List.{[], _∷_};
-ghost use Rattle.gate_c.specs.Cells.{limits as limitsBy, registersIn, registerCells, reportCells, stepCode, runCode, lengthOf, textCells, startedCells, steppedCells, ranCells};
+ghost use Rattle.gate_c.specs.Cells.{limits as limitsBy, registersIn, registerCells, reportCells, stepCode, runCode, lengthOf, instructionText, textCells, startedCells, steppedCells, ranCells};
 use checker::Verdict;
 use checker::check;
 use decoder::decode;
@@ -17,6 +17,7 @@ use machine::StepAnswer;
 use machine::run;
 use machine::step;
 use stm8::Decoded;
+use stm8::Instruction;
 
 fn limits(grantlow: u16, granthigh: u16, stacklow: u16, stackhigh: u16) -> Limits
     ensures { λ r. ⌜ r ≡ limitsBy grantlow granthigh stacklow stackhigh ⌝ }
@@ -56,11 +57,11 @@ fn registers_in(cells: &[u32; 6]) -> Registers
     ensures { λ r. ⌜ r ≡ registersIn (now (cells .entry)) ⌝ }
 {
     Registers {
-        a: cells[0] as u8,
-        x: cells[1] as u16,
-        y: cells[2] as u16,
-        cc: cells[3] as u8,
-        sp: cells[4] as u16,
+        a: (cells[0] % 256) as u8,
+        x: (cells[1] % 65536) as u16,
+        y: (cells[2] % 65536) as u16,
+        cc: (cells[3] % 256) as u8,
+        sp: (cells[4] % 65536) as u16,
         pc: cells[5],
     }
 }
@@ -200,22 +201,26 @@ pub extern "C" fn gate_run(
     );
     let answer = ran.answer;
     *registers = register_cells(ran.registers);
-    steps[0] = ran.steps;
+    *steps = [ran.steps];
     run_code(answer)
 }
 
-// The text of what was decoded, with 0 after it.
+// An instruction's text, with 0 after it: no text is longer than 23 letters.
+fn instruction_text(i: Instruction, address: u16) -> [u8; 24]
+    ensures { λ r. ⌜ r ≡ instructionText address i ⌝ }
+{
+    let mut cells = [0u8; 24];
+    disassemble(i, address, &mut cells[..]);
+    cells
+}
+
 fn text_cells(found: Decoded, address: u16) -> [u8; 24]
     ensures { λ r. ⌜ r ≡ textCells address found ⌝ }
 {
-    let mut cells = [0u8; 24];
     match found {
-        Decoded::Found(i, _) => {
-            disassemble(i, address, &mut cells[..]);
-            cells
-        }
-        Decoded::Outside => cells,
-        Decoded::Truncated => cells,
+        Decoded::Found(i, _) => instruction_text(i, address),
+        Decoded::Outside => [0u8; 24],
+        Decoded::Truncated => [0u8; 24],
     }
 }
 
@@ -252,6 +257,6 @@ pub extern "C" fn gate_decode(
 {
     let found = decode(bytes);
     *text = text_cells(found, address);
-    length[0] = length_of(found);
+    *length = [length_of(found)];
     decoding_number(found)
 }

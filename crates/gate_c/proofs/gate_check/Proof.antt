@@ -1,0 +1,19 @@
+-- `gate_c::gate_check` meets its contract.
+use borrow.Author.Needs.{needs}
+use Rattle.gate_c.proofs.gate_check.Statement.{statement}
+use Rattle.gate_c.proofs.gate_check.Tie as tie
+use Rattle.gate_c.proofs.Answers.{checked-by}
+
+returns : tie.Need-returns
+returns c = checked-by _ _ _ _ _ _ _ _ (c .before .before .before .before .before .before .limits .ensures) (c .before .before .before .before .check .ensures) (c .number .ensures) (c .before .report-cells .ensures)
+
+pub gate-check-spec : {M : Type 1} → statement M
+gate-check-spec =
+    tie.close
+    (tie.spec
+    (λ c κs. search needs)
+    (λ c κs. search needs)
+    (λ c κs. search needs)
+    (λ c κs. search needs)
+    (λ c. search needs)
+    returns)

@@ -1,0 +1,19 @@
+-- `gate_c::gate_decode` meets its contract.
+use mathlib.Core.Path.{ap}
+use mathlib.Core.List.{[], _∷_}
+use borrow.Author.Needs.{needs}
+use Rattle.gate_c.proofs.gate_decode.Statement.{statement}
+use Rattle.gate_c.proofs.gate_decode.Tie as tie
+
+returns : tie.Need-returns
+returns c = rw (← c .before .before .before .before .decode .ensures) (c .decoding-number .ensures, (c .before .before .before .text-cells .ensures, ap (λ n. n ∷ []) (c .before .before .length-of .ensures)))
+
+pub gate-decode-spec : {M : Type 1} → statement M
+gate-decode-spec =
+    tie.close
+    (tie.spec
+    (λ c κs. search needs)
+    (λ c κs. search needs)
+    (λ c κs. search needs)
+    (λ c κs. search needs)
+    returns)

@@ -1,0 +1,20 @@
+-- `gate_c::gate_step` meets its contract.
+use borrow.Author.Needs.{needs}
+use Rattle.gate_c.proofs.gate_step.Statement.{statement}
+use Rattle.gate_c.proofs.gate_step.Tie as tie
+use Rattle.gate_c.proofs.Answers.{stepped-by}
+
+returns : tie.Need-returns
+returns c = stepped-by _ _ _ _ _ _ _ _ _ _ (c .before .before .before .before .before .before .before .before .limits .ensures) (c .before .before .before .before .before .before .registers-in .ensures) (c .before .before .before .before .step .ensures) (c .step-code .ensures) (c .before .register-cells .ensures)
+
+pub gate-step-spec : {M : Type 1} → statement M
+gate-step-spec =
+    tie.close
+    (tie.spec
+    (λ c κs. search needs)
+    (λ c κs. search needs)
+    (λ c κs. search needs)
+    (λ c κs. search needs)
+    (λ c κs. search needs)
+    (λ c. search needs)
+    returns)
