@@ -10,20 +10,13 @@ use borrow.Author.Tests.{le-leb, lt-leb, lt-ltb, le-ltb}
 use Rattle.numbers.specs.Bits.{flag, bit}
 use Rattle.numbers.proofs.Computing.{below}
 use Rattle.arithmetic.specs.Bits.{isSet}
+use Rattle.arithmetic.specs.Formulas.{carryFormula, borrowFormula}
 use Rattle.arithmetic.specs.Sums.{sum, carryOut, difference, borrowOut, differenceOverflow, afterDifference}
 use Rattle.arithmetic.specs.Accumulator.{subtracted}
 use Rattle.arithmetic.specs.Modify.{NEG}
 use Rattle.arithmetic.proofs.BitLaws.{flag-le, bit-low}
 use Rattle.arithmetic.proofs.Orders.{by-order}
 use Rattle.arithmetic.proofs.Overflow.{whole, top}
-
--- A.M + M.R + R.A, with R complemented
-abbrev pub carryFormula : Bool → Bool → Bool → Bool
-carryFormula a m r = (a && m) || (m && not r) || (not r && a)
-
--- A.M + A.R + A.M.R, with A complemented in the first two
-abbrev pub borrowFormula : Bool → Bool → Bool → Bool
-borrowFormula a m r = (not a && m) || (not a && r) || (a && m && r)
 
 -- bit n by the number that bits n to 0 make
 bit-by-low : (n a : ℕ) → isSet n a ≡ leb (2 ^ n) (a % 2 ^ (n + 1))

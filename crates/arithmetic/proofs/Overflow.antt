@@ -12,17 +12,10 @@ use lib.Pow.{pow-pos, pow-add}
 use borrow.Author.Tests.{le-leb, lt-leb, lt-ltb, le-ltb}
 use Rattle.numbers.specs.Bits.{flag, bit}
 use Rattle.arithmetic.specs.Bits.{isSet}
+use Rattle.arithmetic.specs.Signed.{signed, fitsSigned}
 use Rattle.arithmetic.specs.Sums.{carryOut, borrowOut, sumOverflow, differenceOverflow}
 use Rattle.arithmetic.proofs.BitLaws.{flag-le}
 use Rattle.arithmetic.proofs.Orders.{by-order, same-test, not-ltb, not-leb}
-
--- the signed value of a number of width w: 2^w less where its top bit is set
-abbrev pub signed : ℕ → ℕ → ℤ
-signed w n = subℕ n (cond (isSet (w - 1) n) (2 ^ w) 0)
-
--- from -2^(w-1) to 2^(w-1) - 1
-abbrev pub fitsSigned : ℕ → ℤ → Bool
-fitsSigned w z = leZ (negℤ (pos (2 ^ (w - 1)))) z && ltZ z (pos (2 ^ (w - 1)))
 
 -- differences of naturals, as integers
 sub-less : (a b : ℕ) → a < b → subℕ a b ≡ negsuc (b - suc a)
