@@ -79,7 +79,7 @@ module _ (limits : Limits) (areas : LimitsRules limits) (sp next : ℕ) (e : Eff
   -- and the address after a call, where 22 is not due
   next-word : calls (e .flow) ≡ true → next < 0x10000
   unfolding effectTrap callTrap
-  next-word call = ltb-true _ _ (unless-zero _ 21 (rw call at (passed _ allowed .2)))
+  next-word call = ltb-true _ _ (unless-zero _ 21 (rw call at (passed _ allowed .1 .1 .0)))
 
 -- a call
 jump-calls : (falls : Bool) (n : ℕ) → calls (cond falls (Branch n) (Jump n)) ≡ true → ⊥
@@ -194,24 +194,28 @@ module _ (image : List ℕ) (limits : Limits) (regs : Registers) (memory : List 
   trap-keeps n = inl (record { answer = not-made-trap n; finished = λ h. absurd (not-finished-trap n h); is = refl })
 
   module _ (accepted : stepRefusal image limits memory ≡ 0) where
-    decoded-way : (d : Decoded) → decoded (drop (regs .pc - baseOf image) (codeOf image)) ≡ d → Way (decodedStep image limits regs memory d)
-    unfolding decodedStep
-    decoded-way Outside e = trap-keeps 23
-    decoded-way Truncated e = trap-keeps 22
-    decoded-way (Found i n) e =
-        by-test Way (eqb (effectTrap limits (regs .sp) (regs .pc + n) (effect i)) 0)
-        (λ t. inr
+    made-way : (i : Instruction) (n : ℕ) → decoded (drop (regs .pc - baseOf image) (codeOf image)) ≡ Found i n →
+        effectTrap limits (regs .sp) (regs .pc + n) (effect i) ≡ 0 → Way (made image regs memory (regs .pc + n) i)
+    unfolding made
+    made-way i n found allowed =
+        inr
         (record {
           answer = refl;
           step =
               record {
                 instruction = i;
                 size = n;
-                found = e;
-                changes = made-changes image limits regs memory accepted (regs .pc + n) i (eqb-true _ _ t);
+                found = found;
+                changes = made-changes image limits regs memory accepted (regs .pc + n) i allowed;
               };
-        }))
-        (λ t. trap-keeps _)
+        })
+
+    decoded-way : (d : Decoded) → decoded (drop (regs .pc - baseOf image) (codeOf image)) ≡ d → Way (decodedStep image limits regs memory d)
+    unfolding decodedStep
+    decoded-way Outside e = trap-keeps 23
+    decoded-way Truncated e = trap-keeps 22
+    decoded-way (Found i n) e =
+        by-test Way (eqb (effectTrap limits (regs .sp) (regs .pc + n) (effect i)) 0) (λ t. made-way i n e (eqb-true _ _ t)) (λ t. trap-keeps _)
 
     valid-way : Way (stepValid image limits regs memory)
     unfolding stepValid
