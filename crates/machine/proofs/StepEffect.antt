@@ -139,8 +139,11 @@ module _ (image : List ℕ) (limits : Limits) (regs : Registers) (memory : List 
         let moves = sp-moves limits areas-hold (regs .sp) next (effect i) allowed in
         let at = spAfter (regs .sp) (effect i) + 1 in
         let inside : at + 1 < 0x8000 = omega (arith, areas-hold .stack .high, moves .0, moves .1, by-call .0, by-call .1) in
-        rw (by-call .2, read-memory image (sets memory at (high (next % 0x10000) ∷ low (next % 0x10000) ∷ [])) at inside,
-            word-stored memory at (next % 0x10000) (omega (arith, memory-size)))
+        rw (
+          by-call .2,
+          read-memory image (sets memory at (high (next % 0x10000) ∷ low (next % 0x10000) ∷ [])) at inside,
+          word-stored memory at (next % 0x10000) (omega (arith, memory-size)),
+        )
         (mod-eq-of-lt (next-word limits areas-hold (regs .sp) next (effect i) allowed call))
 
     made-changes : Changes image next (effect i) regs memory (made image regs memory next i .0 .registers) (made image regs memory next i .1)
