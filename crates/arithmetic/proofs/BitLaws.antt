@@ -2,7 +2,6 @@
 use Prim.Native.Nat.{ℕ, suc, _+_, _-_, _*_, _/_, _%_, _^_, _≤_, _<_}
 use mathlib.Core.Path.{_≡_, refl, sym, ap, _∙_}
 use mathlib.Core.Bool.{Bool, true, false, cond}
-use mathlib.Core.Logic.{_⊎_, inl, inr}
 use native.Mathlib.Omega.{arith}
 use native.Mathlib.Nat.{add-comm, mul-assoc, mul-right-comm, div-add-mod', mul-le-mul-right, mod-eq-of-lt, mod-lt, lt-of-le-of-lt}
 use lib.Arith.{digits-div, digits-mod}
@@ -11,6 +10,7 @@ use lib.Pow.{pow-pos, pow-add, pow-lt, mod-pow-add, shr-lt, shr-shr, field, mod-
 use borrow.Author.Tests.{lt-ltb}
 use Rattle.numbers.specs.Bits.{flag, bit}
 use Rattle.arithmetic.specs.Bits.{withBit}
+use Rattle.arithmetic.proofs.Orders.{by-order}
 
 pub flag-le : (b : Bool) → flag b ≤ 1
 flag-le true = omega arith
@@ -57,7 +57,7 @@ module _ (k n : ℕ) (b : Bool) (small : k < 8) (byte : n < 256) where
       rw (old-bit, new-bit) (omega (arith, parts k n, flag-bit b (2 ^ k), q, p, mod-lt n (pow-pos k)))
 
 -- a bit goes by the bits up to it, and by the bits from a lower one on
-bit-low : (i j n : ℕ) → bit j (n % 2 ^ (i + 1 + j)) ≡ bit j n
+pub bit-low : (i j n : ℕ) → bit j (n % 2 ^ (i + 1 + j)) ≡ bit j n
 unfolding bit
 bit-low i j n = rw (field n (i + 1) j, mod-mod-pow (n / 2 ^ j) i 1)
 
@@ -82,16 +82,20 @@ module _ (k n : ℕ) (b : Bool) where
   bit-with-bit small = rw (from-bit small) (omega (arith, flag-le b))
 
   -- the bits below it stay
-  pub bits-below : (j : ℕ) → k < 8 → j < k → bit j (withBit k b n) ≡ bit j n
+  bits-below : (j : ℕ) → k < 8 → j < k → bit j (withBit k b n) ≡ bit j n
   bits-below j small lower =
       let same : withBit k b n % 2 ^ k ≡ n % 2 ^ k = rw (apart small) (digits-mod (n / 2 ^ (k + 1) * 2 + flag b) (mod-lt n (pow-pos k))) in
       let up : k - (j + 1) + 1 + j ≡ k = omega arith in
       sym (rw up at (bit-low (k - (j + 1)) j (withBit k b n))) ∙ ap (bit j) same ∙ rw up at (bit-low (k - (j + 1)) j n)
 
   -- the bits above it stay
-  pub bits-above : (j : ℕ) → k < 8 → k < j → bit j (withBit k b n) ≡ bit j n
+  bits-above : (j : ℕ) → k < 8 → k < j → bit j (withBit k b n) ≡ bit j n
   bits-above j small higher =
       let half : (n / 2 ^ (k + 1) * 2 + flag b) / 2 ≡ n / 2 ^ (k + 1) = omega (arith, flag-le b) in
       let same : withBit k b n / 2 ^ (k + 1) ≡ n / 2 ^ (k + 1) = sym (shr-shr (withBit k b n) k 1) ∙ ap (λ x. x / 2) (from-bit small) ∙ half in
       let up : k + 1 + (j - (k + 1)) ≡ j = omega arith in
       rw up at (bit-high (k + 1) (j - (k + 1)) (withBit k b n)) ∙ ap (bit (j - (k + 1))) same ∙ sym (rw up at (bit-high (k + 1) (j - (k + 1)) n))
+
+  -- every other bit stays
+  pub other-bit : (j : ℕ) → k < 8 → (j ≡ k → ⊥) → bit j (withBit k b n) ≡ bit j n
+  other-bit j small differs = by-order j k (bits-below j small) (λ h. bits-above j small (omega arith))

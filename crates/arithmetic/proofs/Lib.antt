@@ -1,3 +1,7 @@
 pub mod BitLaws
+pub mod Kept
+pub mod Manual
 pub mod Orders
+pub mod Overflow
 pub mod SumLaws
+pub mod Worked

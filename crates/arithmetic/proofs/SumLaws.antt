@@ -1,4 +1,4 @@
--- The code's way to a carry and to a difference.
+-- The code's way to a carry, a difference, a shift and a product.
 use Prim.Native.Nat.{ℕ, _+_, _-_, _*_, _%_, _^_, _≤_, _<_}
 use mathlib.Core.Path.{_≡_, sym, _∙_}
 use mathlib.Core.Bool.{cond}
@@ -29,6 +29,10 @@ wrapped p a m x r ha hm hx hr e =
     (λ h.
     let s : r + (m + x) - p ≡ a = sym (mod-eq-sub-mod h ∙ mod-eq-of-lt (omega arith)) ∙ e in
     rw (lt-ltb a (m + x) (omega arith)) (omega arith)))
+
+-- to double the low seven bits of a byte is to double it modulo 256
+pub doubled : (m : ℕ) → m % 128 * 2 ≡ m * 2 % 256
+doubled m = omega arith
 
 -- a product of two bytes is a word
 pub product-fits : (x y : ℕ) → x < 256 → y < 256 → x * y < 65536

@@ -15,8 +15,8 @@ unfoldable pub subtracted : ℕ → ℕ → Bool → ℕ → ByteResult
 subtracted a m c cc = record { value = difference 8 a m c; cc = afterDifference 8 a m c cc }
 
 -- a value: - - - - N Z -
-unfoldable pub loaded : ℕ → ℕ → ByteResult
-loaded r cc = record { value = r; cc = withNZ 8 r cc }
+unfoldable pub resultNZ : ℕ → ℕ → ByteResult
+resultNZ r cc = record { value = r; cc = withNZ 8 r cc }
 
 -- A + src + C
 abbrev pub ADC : ℕ → ℕ → ℕ → ByteResult
@@ -28,7 +28,7 @@ ADD a m cc = added a m false cc
 
 -- A AND src
 abbrev pub AND : ℕ → ℕ → ℕ → ByteResult
-AND a m cc = loaded (bitAnd a m) cc
+AND a m cc = resultNZ (bitAnd a m) cc
 
 -- A AND src, and the result is lost
 unfoldable pub BCP : ℕ → ℕ → ℕ → ByteResult
@@ -40,11 +40,11 @@ CP a m cc = record { value = a; cc = afterDifference 8 a m false cc }
 
 -- src
 abbrev pub LD : ℕ → ℕ → ByteResult
-LD m cc = loaded m cc
+LD m cc = resultNZ m cc
 
 -- A OR src
 abbrev pub OR : ℕ → ℕ → ℕ → ByteResult
-OR a m cc = loaded (bitOr a m) cc
+OR a m cc = resultNZ (bitOr a m) cc
 
 -- A - src - C
 abbrev pub SBC : ℕ → ℕ → ℕ → ByteResult
@@ -56,4 +56,4 @@ SUB a m cc = subtracted a m false cc
 
 -- A XOR src
 abbrev pub XOR : ℕ → ℕ → ℕ → ByteResult
-XOR a m cc = loaded (bitXor a m) cc
+XOR a m cc = resultNZ (bitXor a m) cc

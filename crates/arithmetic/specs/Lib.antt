@@ -6,3 +6,5 @@ pub mod Modify
 pub mod Words
 pub mod BitOperations
 pub mod Conditions
+pub mod Signed
+pub mod Formulas

@@ -7,11 +7,11 @@ use Rattle.arithmetic.specs.declared.ByteResult.{ByteResult}
 use Rattle.arithmetic.specs.Bits.{isSet}
 use Rattle.arithmetic.specs.Flags.{flagC, withV, withN, withZ, withC, withNZ}
 use Rattle.arithmetic.specs.Sums.{sum, difference, afterIncrement, afterDecrement}
-use Rattle.arithmetic.specs.Accumulator.{loaded}
+use Rattle.arithmetic.specs.Accumulator.{resultNZ}
 
 -- a value and C: - - - - N Z C
-unfoldable pub shifted : ℕ → Bool → ℕ → ByteResult
-shifted r c cc = record { value = r; cc = withC c (withNZ 8 r cc) }
+unfoldable pub resultNZC : ℕ → Bool → ℕ → ByteResult
+resultNZC r c cc = record { value = r; cc = withC c (withNZ 8 r cc) }
 
 -- 00: - - - - 0 1 -
 unfoldable pub CLR : ℕ → ByteResult
@@ -19,7 +19,7 @@ CLR cc = record { value = 0; cc = withN false (withZ true cc) }
 
 -- FF - dst: - - - - N Z 1
 abbrev pub CPL : ℕ → ℕ → ByteResult
-CPL m cc = shifted (255 - m) true cc
+CPL m cc = resultNZC (255 - m) true cc
 
 -- dst - 1: V - - - N Z -
 unfoldable pub DEC : ℕ → ℕ → ByteResult
@@ -35,28 +35,28 @@ NEG m cc = record { value = difference 8 0 m false; cc = withV (eqb m 128) (with
 
 -- one place to the left: bit 0 is C, and C is bit 7
 abbrev pub RLC : ℕ → ℕ → ByteResult
-RLC m cc = shifted (m * 2 % 256 + flag (flagC cc)) (isSet 7 m) cc
+RLC m cc = resultNZC (m * 2 % 256 + flag (flagC cc)) (isSet 7 m) cc
 
 -- one place to the right: bit 7 is C, and C is bit 0
 abbrev pub RRC : ℕ → ℕ → ByteResult
-RRC m cc = shifted (flag (flagC cc) * 128 + m / 2) (isSet 0 m) cc
+RRC m cc = resultNZC (flag (flagC cc) * 128 + m / 2) (isSet 0 m) cc
 
 -- one place to the left: bit 0 is 0, and C is bit 7
 abbrev pub SLL : ℕ → ℕ → ByteResult
-SLL m cc = shifted (m * 2 % 256) (isSet 7 m) cc
+SLL m cc = resultNZC (m * 2 % 256) (isSet 7 m) cc
 
 -- one place to the right: bit 7 stays, and C is bit 0
 abbrev pub SRA : ℕ → ℕ → ByteResult
-SRA m cc = shifted (bit 7 m * 128 + m / 2) (isSet 0 m) cc
+SRA m cc = resultNZC (bit 7 m * 128 + m / 2) (isSet 0 m) cc
 
 -- one place to the right: bit 7 is 0, and C is bit 0
 abbrev pub SRL : ℕ → ℕ → ByteResult
-SRL m cc = shifted (m / 2) (isSet 0 m) cc
+SRL m cc = resultNZC (m / 2) (isSet 0 m) cc
 
 -- the nibbles exchanged: - - - - N Z -
 abbrev pub SWAP : ℕ → ℕ → ByteResult
-SWAP m cc = loaded (m % 16 * 16 + m / 16) cc
+SWAP m cc = resultNZ (m % 16 * 16 + m / 16) cc
 
 -- dst as it is: - - - - N Z -
 abbrev pub TNZ : ℕ → ℕ → ByteResult
-TNZ m cc = loaded m cc
+TNZ m cc = resultNZ m cc

@@ -1,6 +1,6 @@
 // The operations on A with an operand: A and CC after each.
 ghost use mathlib.Core.Path.{_≡_};
-ghost use Rattle.arithmetic.specs.Accumulator.{added as addedOf, subtracted as subtractedOf, loaded as loadedOf, ADC, ADD, AND, BCP, CP, LD, OR, SBC, SUB, XOR};
+ghost use Rattle.arithmetic.specs.Accumulator.{added as addedOf, subtracted as subtractedOf, resultNZ, ADC, ADD, AND, BCP, CP, LD, OR, SBC, SUB, XOR};
 use crate::ByteResult;
 use crate::flags;
 use crate::sums;
@@ -27,12 +27,12 @@ fn subtracted(a: u8, m: u8, c: bool, cc: u8) -> ByteResult
 }
 
 // A value that affects N and Z alone.
-pub fn loaded(value: u8, cc: u8) -> ByteResult
-    ensures { λ r. ⌜ r ≡ loadedOf value cc ⌝ }
+pub fn result_nz(value: u8, cc: u8) -> ByteResult
+    ensures { λ r. ⌜ r ≡ resultNZ value cc ⌝ }
 {
     ByteResult {
         value,
-        cc: flags::with_byte(value, cc),
+        cc: flags::with_nz_of_byte(value, cc),
     }
 }
 
@@ -51,7 +51,7 @@ pub fn add(a: u8, m: u8, cc: u8) -> ByteResult
 pub fn and(a: u8, m: u8, cc: u8) -> ByteResult
     ensures { λ r. ⌜ r ≡ AND a m cc ⌝ }
 {
-    loaded(a & m, cc)
+    result_nz(a & m, cc)
 }
 
 pub fn bcp(a: u8, m: u8, cc: u8) -> ByteResult
@@ -59,7 +59,7 @@ pub fn bcp(a: u8, m: u8, cc: u8) -> ByteResult
 {
     ByteResult {
         value: a,
-        cc: flags::with_byte(a & m, cc),
+        cc: flags::with_nz_of_byte(a & m, cc),
     }
 }
 
@@ -75,13 +75,13 @@ pub fn cp(a: u8, m: u8, cc: u8) -> ByteResult
 pub fn ld(m: u8, cc: u8) -> ByteResult
     ensures { λ r. ⌜ r ≡ LD m cc ⌝ }
 {
-    loaded(m, cc)
+    result_nz(m, cc)
 }
 
 pub fn or(a: u8, m: u8, cc: u8) -> ByteResult
     ensures { λ r. ⌜ r ≡ OR a m cc ⌝ }
 {
-    loaded(a | m, cc)
+    result_nz(a | m, cc)
 }
 
 pub fn sbc(a: u8, m: u8, cc: u8) -> ByteResult
@@ -99,5 +99,5 @@ pub fn sub(a: u8, m: u8, cc: u8) -> ByteResult
 pub fn xor(a: u8, m: u8, cc: u8) -> ByteResult
     ensures { λ r. ⌜ r ≡ XOR a m cc ⌝ }
 {
-    loaded(a ^ m, cc)
+    result_nz(a ^ m, cc)
 }

@@ -54,24 +54,24 @@ pub fn with_c(c: bool, cc: u8) -> u8
 }
 
 // CC with N and Z put in.
-fn with_n_z(n: bool, z: bool, cc: u8) -> u8
+fn with_n_and_z(n: bool, z: bool, cc: u8) -> u8
     ensures { λ r. ⌜ r ≡ withN n (withZ z cc) ⌝ }
 {
     with_bit(2, n, with_bit(1, z, cc))
 }
 
 // CC with N and Z of a byte.
-pub fn with_byte(value: u8, cc: u8) -> u8
+pub fn with_nz_of_byte(value: u8, cc: u8) -> u8
     ensures { λ r. ⌜ r ≡ withNZ 8 value cc ⌝ }
 {
-    with_n_z(value / 128 % 2 == 1, value == 0, cc)
+    with_n_and_z(value / 128 % 2 == 1, value == 0, cc)
 }
 
 // CC with N and Z of a word.
-pub fn with_word(value: u16, cc: u8) -> u8
+pub fn with_nz_of_word(value: u16, cc: u8) -> u8
     ensures { λ r. ⌜ r ≡ withNZ 16 value cc ⌝ }
 {
-    with_n_z(value / 32768 % 2 == 1, value == 0, cc)
+    with_n_and_z(value / 32768 % 2 == 1, value == 0, cc)
 }
 
 pub fn scf(cc: u8) -> u8

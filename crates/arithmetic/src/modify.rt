@@ -1,33 +1,33 @@
 // The operations on one byte: the byte and CC after each.
 ghost use mathlib.Core.Path.{_≡_};
-ghost use Rattle.arithmetic.specs.Modify.{shifted as shiftedOf, CLR, CPL, DEC, INC, NEG, RLC, RRC, SLL, SRA, SRL, SWAP, TNZ};
+ghost use Rattle.arithmetic.specs.Modify.{resultNZC, CLR, CPL, DEC, INC, NEG, RLC, RRC, SLL, SRA, SRL, SWAP, TNZ};
 use crate::ByteResult;
-use crate::accumulator::loaded;
+use crate::accumulator::result_nz;
 use crate::bits::is_set;
 use crate::flags;
 use crate::sums;
 use numbers::bits::flag;
 
 // A value that affects N, Z and C.
-fn shifted(value: u8, c: bool, cc: u8) -> ByteResult
-    ensures { λ r. ⌜ r ≡ shiftedOf value c cc ⌝ }
+fn result_nzc(value: u8, c: bool, cc: u8) -> ByteResult
+    ensures { λ r. ⌜ r ≡ resultNZC value c cc ⌝ }
 {
     ByteResult {
         value,
-        cc: flags::with_c(c, flags::with_byte(value, cc)),
+        cc: flags::with_c(c, flags::with_nz_of_byte(value, cc)),
     }
 }
 
 pub fn clr(cc: u8) -> ByteResult
     ensures { λ r. ⌜ r ≡ CLR cc ⌝ }
 {
-    loaded(0, cc)
+    result_nz(0, cc)
 }
 
 pub fn cpl(m: u8, cc: u8) -> ByteResult
     ensures { λ r. ⌜ r ≡ CPL m cc ⌝ }
 {
-    shifted(255 - m, true, cc)
+    result_nzc(255 - m, true, cc)
 }
 
 pub fn dec(m: u8, cc: u8) -> ByteResult
@@ -54,48 +54,51 @@ pub fn neg(m: u8, cc: u8) -> ByteResult
     let value = sums::byte_difference(0, m, false);
     ByteResult {
         value,
-        cc: flags::with_v(m == 128, flags::with_c(m != 0, flags::with_byte(value, cc))),
+        cc: flags::with_v(
+            m == 128,
+            flags::with_c(m != 0, flags::with_nz_of_byte(value, cc)),
+        ),
     }
 }
 
 pub fn rlc(m: u8, cc: u8) -> ByteResult
     ensures { λ r. ⌜ r ≡ RLC m cc ⌝ }
 {
-    shifted(m % 128 * 2 + flag(flags::carry(cc)), is_set(7, m), cc)
+    result_nzc(m % 128 * 2 + flag(flags::carry(cc)), is_set(7, m), cc)
 }
 
 pub fn rrc(m: u8, cc: u8) -> ByteResult
     ensures { λ r. ⌜ r ≡ RRC m cc ⌝ }
 {
-    shifted(flag(flags::carry(cc)) * 128 + m / 2, is_set(0, m), cc)
+    result_nzc(flag(flags::carry(cc)) * 128 + m / 2, is_set(0, m), cc)
 }
 
 pub fn sll(m: u8, cc: u8) -> ByteResult
     ensures { λ r. ⌜ r ≡ SLL m cc ⌝ }
 {
-    shifted(m % 128 * 2, is_set(7, m), cc)
+    result_nzc(m % 128 * 2, is_set(7, m), cc)
 }
 
 pub fn sra(m: u8, cc: u8) -> ByteResult
     ensures { λ r. ⌜ r ≡ SRA m cc ⌝ }
 {
-    shifted(m / 128 % 2 * 128 + m / 2, is_set(0, m), cc)
+    result_nzc(m / 128 % 2 * 128 + m / 2, is_set(0, m), cc)
 }
 
 pub fn srl(m: u8, cc: u8) -> ByteResult
     ensures { λ r. ⌜ r ≡ SRL m cc ⌝ }
 {
-    shifted(m / 2, is_set(0, m), cc)
+    result_nzc(m / 2, is_set(0, m), cc)
 }
 
 pub fn swap(m: u8, cc: u8) -> ByteResult
     ensures { λ r. ⌜ r ≡ SWAP m cc ⌝ }
 {
-    loaded(m % 16 * 16 + m / 16, cc)
+    result_nz(m % 16 * 16 + m / 16, cc)
 }
 
 pub fn tnz(m: u8, cc: u8) -> ByteResult
     ensures { λ r. ⌜ r ≡ TNZ m cc ⌝ }
 {
-    loaded(m, cc)
+    result_nz(m, cc)
 }

@@ -3,10 +3,10 @@ ghost use mathlib.Core.Path.{_≡_};
 ghost use mathlib.Core.Bool.{false};
 ghost use Prim.Native.Nat.{_<_, _≤_};
 ghost use Rattle.arithmetic.specs.Sums.{sum, carryOut, difference, borrowOut, sumOverflow, differenceOverflow, afterSum, afterDifference, afterIncrement, afterDecrement};
-use crate::flags::with_byte;
 use crate::flags::with_c;
+use crate::flags::with_nz_of_byte;
+use crate::flags::with_nz_of_word;
 use crate::flags::with_v;
-use crate::flags::with_word;
 use numbers::bits::flag;
 
 // The carry out of bit n of a + m + c.
@@ -95,7 +95,7 @@ pub fn after_byte_sum(a: u8, m: u8, c: bool, cc: u8) -> u8
 {
     let v = sum_overflow(8, a as u32, m as u32, c);
     let carry = carry(7, a as u32, m as u32, c);
-    with_v(v, with_c(carry, with_byte(byte_sum(a, m, c), cc)))
+    with_v(v, with_c(carry, with_nz_of_byte(byte_sum(a, m, c), cc)))
 }
 
 // CC after a - m - c of bytes.
@@ -104,7 +104,10 @@ pub fn after_byte_difference(a: u8, m: u8, c: bool, cc: u8) -> u8
 {
     let v = difference_overflow(8, a as u32, m as u32, c);
     let borrow = borrow(7, a as u32, m as u32, c);
-    with_v(v, with_c(borrow, with_byte(byte_difference(a, m, c), cc)))
+    with_v(
+        v,
+        with_c(borrow, with_nz_of_byte(byte_difference(a, m, c), cc)),
+    )
 }
 
 // CC after a + m of words.
@@ -113,7 +116,7 @@ pub fn after_word_sum(a: u16, m: u16, cc: u8) -> u8
 {
     let v = sum_overflow(16, a as u32, m as u32, false);
     let carry = carry(15, a as u32, m as u32, false);
-    with_v(v, with_c(carry, with_word(word_sum(a, m), cc)))
+    with_v(v, with_c(carry, with_nz_of_word(word_sum(a, m), cc)))
 }
 
 // CC after a - m of words.
@@ -122,7 +125,10 @@ pub fn after_word_difference(a: u16, m: u16, cc: u8) -> u8
 {
     let v = difference_overflow(16, a as u32, m as u32, false);
     let borrow = borrow(15, a as u32, m as u32, false);
-    with_v(v, with_c(borrow, with_word(word_difference(a, m), cc)))
+    with_v(
+        v,
+        with_c(borrow, with_nz_of_word(word_difference(a, m), cc)),
+    )
 }
 
 // CC after m + 1 of a byte.
@@ -130,7 +136,7 @@ pub fn after_byte_increment(m: u8, cc: u8) -> u8
     ensures { λ r. ⌜ r ≡ afterIncrement 8 m cc ⌝ }
 {
     let v = sum_overflow(8, m as u32, 1, false);
-    with_v(v, with_byte(byte_sum(m, 1, false), cc))
+    with_v(v, with_nz_of_byte(byte_sum(m, 1, false), cc))
 }
 
 // CC after m - 1 of a byte.
@@ -138,7 +144,7 @@ pub fn after_byte_decrement(m: u8, cc: u8) -> u8
     ensures { λ r. ⌜ r ≡ afterDecrement 8 m cc ⌝ }
 {
     let v = difference_overflow(8, m as u32, 1, false);
-    with_v(v, with_byte(byte_difference(m, 1, false), cc))
+    with_v(v, with_nz_of_byte(byte_difference(m, 1, false), cc))
 }
 
 // CC after m + 1 of a word.
@@ -146,7 +152,7 @@ pub fn after_word_increment(m: u16, cc: u8) -> u8
     ensures { λ r. ⌜ r ≡ afterIncrement 16 m cc ⌝ }
 {
     let v = sum_overflow(16, m as u32, 1, false);
-    with_v(v, with_word(word_sum(m, 1), cc))
+    with_v(v, with_nz_of_word(word_sum(m, 1), cc))
 }
 
 // CC after m - 1 of a word.
@@ -154,5 +160,5 @@ pub fn after_word_decrement(m: u16, cc: u8) -> u8
     ensures { λ r. ⌜ r ≡ afterDecrement 16 m cc ⌝ }
 {
     let v = difference_overflow(16, m as u32, 1, false);
-    with_v(v, with_word(word_difference(m, 1), cc))
+    with_v(v, with_nz_of_word(word_difference(m, 1), cc))
 }

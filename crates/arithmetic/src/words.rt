@@ -11,7 +11,7 @@ pub fn ldw(m: u16, cc: u8) -> WordResult
 {
     WordResult {
         value: m,
-        cc: flags::with_word(m, cc),
+        cc: flags::with_nz_of_word(m, cc),
     }
 }
 

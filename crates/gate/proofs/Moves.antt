@@ -3,8 +3,7 @@ use Prim.Native.Nat.{ℕ, _+_, _-_, _≤_, _<_}
 use mathlib.Core.Path.{_≡_, refl}
 use mathlib.Core.List.{List}
 use native.Mathlib.Omega.{arith}
-use lib.ListN.{length, getD}
-use lib.Seq.{length-sets}
+use lib.ListN.{getD}
 use Rattle.numbers.proofs.Checking.{under-pass, unless-pass}
 use Rattle.numbers.proofs.Folding.{_&_}
 use Rattle.stm8.specs.Effects.{bytesWide}
@@ -16,10 +15,10 @@ use Rattle.stm8.specs.declared.Effect.{Effect}
 use Rattle.image.specs.declared.Limits.{Limits}
 use Rattle.image.specs.Rules.{Within, LimitsRules}
 use Rattle.machine.specs.Step.{moveTrap, storeTrap, spAfter, bytesOfWidth, memoryAfter}
+use Rattle.machine.proofs.Stores.{sets-other, bytes-length, size-kept}
 use Rattle.acceptance.specs.Rules.{StoreRules}
 use Rattle.acceptance.proofs.Checks.{ends-granted}
 use Rattle.gate.specs.Guarantee.{Unchanged}
-use Rattle.gate.proofs.Stores.{sets-other}
 use Rattle.gate.proofs.Forms.{PushesOwn}
 use Rattle.gate.proofs.Frames.{Agree}
 
@@ -30,20 +29,9 @@ pub record Room (limits : Limits) (total need sp d : ℕ) : Type 0 where
   pub depth : d ≤ need
   pub area : limits .stack .low + total ≤ limits .stack .high + 1
 
-bytes-length : (w : Width) (value : ℕ) → length (bytesOfWidth w value) ≡ bytesWide w
-bytes-length Byte value = refl
-bytes-length Word value = refl
-
 width-some : (w : Width) → 1 ≤ bytesWide w
 width-some Byte = omega arith
 width-some Word = omega arith
-
-size-kept : (memory : List ℕ) (sp : ℕ) (e : Effect) (value : ℕ) (place : Place) → length (memoryAfter memory sp e value place) ≡ length memory
-unfolding memoryAfter
-size-kept memory sp e value Nowhere = refl
-size-kept memory sp e value (Direct a w) = length-sets memory a (bytesOfWidth w value)
-size-kept memory sp e value (OnStack f w) = length-sets memory (sp + f) (bytesOfWidth w value)
-size-kept memory sp e value (Pushed w) = length-sets memory (spAfter sp e + 1) (bytesOfWidth w value)
 
 module _ (limits : Limits) (areas : LimitsRules limits) (total need sp d : ℕ) (room : Room limits total need sp d) where
   -- 25 is not due

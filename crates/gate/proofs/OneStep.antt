@@ -23,15 +23,15 @@ use Rattle.stm8.specs.declared.Effect.{Effect}
 use Rattle.image.specs.declared.Limits.{Limits}
 use Rattle.image.specs.Image.{baseOf, startOf}
 use Rattle.checker.specs.Depth.{movesDepth, popped, pushed, after}
-use Rattle.machine.specs.Reading.{readByte, readWord}
+use Rattle.machine.specs.Reading.{readWord}
 use Rattle.machine.specs.Step.{Result, result, moveTrap, callTrap, calls, effectTrap, spAfter, pcAfter, memoryAfter}
 use Rattle.machine.specs.declared.Registers.{Registers}
 use Rattle.machine.specs.declared.Computed.{Computed}
 use Rattle.machine.specs.declared.StepAnswer.the-variants.{Made}
+use Rattle.machine.proofs.Stores.{word-stored, read-memory}
 use Rattle.acceptance.specs.Rules.{branches, always, Calls, absolute, near, before, behind, calling, reportedNeed}
 use Rattle.gate.specs.History.{Book, Point, steppedTo, takenOff, lastOf, fedFlow, owedFlow}
 use Rattle.gate.specs.Guarantee.{Untrapped, Met, Unchanged}
-use Rattle.gate.proofs.Stores.{word-stored}
 use Rattle.gate.proofs.Forms.{PushesOwn, Form}
 use Rattle.gate.proofs.CheckedCode.{CheckedAt, CheckedCode, AfterCall, calls-fall, resumes}
 use Rattle.gate.proofs.Frames.{Agree, Frames, Good, runs, ends, frames-agree}
@@ -51,11 +51,6 @@ pub record StepHolds (image : List ℕ) (limits : Limits) (At : ℕ → ℕ → 
 
 pub unchanged-none : (limits : Limits) (total : ℕ) (memory : List ℕ) → Unchanged limits total memory memory
 unchanged-none limits total memory = record { size = refl; same = λ address grant top. refl }
-
--- a word below 8000 is read from memory
-read-memory : (image memory : List ℕ) (at : ℕ) → at + 1 < 0x8000 → readWord image memory at ≡ wordAt memory at
-unfolding readWord readByte wordAt
-read-memory image memory at below = rw (lt-ltb at 0x8000 (omega arith), lt-ltb (at + 1) 0x8000 below)
 
 pushed-word : (memory : List ℕ) (sp : ℕ) (e : Effect) (value : ℕ) (place : Place) → place ≡ Pushed Word →
     memoryAfter memory sp e value place ≡ sets memory (spAfter sp e + 1) (high value ∷ low value ∷ [])

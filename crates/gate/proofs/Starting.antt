@@ -15,10 +15,10 @@ use Rattle.image.specs.Rules.{ImageRules}
 use Rattle.checker.specs.Check.{checked}
 use Rattle.checker.specs.declared.Verdict.{Verdict}
 use Rattle.checker.specs.declared.Verdict.the-variants.{Accepted, Refused}
+use Rattle.machine.proofs.Stores.{sets-other, word-stored}
 use Rattle.acceptance.proofs.Accepting.{accepted-exactly}
 use Rattle.gate.specs.Start.{Result, zeros, begun, cleared, byVerdict, started}
 use Rattle.gate.specs.History.{emptyBook}
-use Rattle.gate.proofs.Stores.{sets-other, word-stored}
 use Rattle.gate.proofs.CheckedCode.{CheckedCode}
 use Rattle.gate.proofs.Frames.{runs}
 use Rattle.gate.proofs.AnyList.{Tracked}

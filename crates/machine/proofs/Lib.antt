@@ -1,4 +1,5 @@
 pub mod ReadLaws
+pub mod Stores
 pub mod StepLaws
 pub mod StepEffect
 pub mod RunLaws

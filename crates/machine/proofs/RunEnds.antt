@@ -8,7 +8,7 @@ use lib.Dec.{eqb}
 use borrow.Author.Tests.{eqb-true, eqb-false}
 use Rattle.image.specs.declared.Limits.{Limits}
 use Rattle.machine.specs.Step.{stepRefusal, stepped}
-use Rattle.machine.specs.Run.{ended, oneMore, afterStep, noStepsLeft, ran}
+use Rattle.machine.specs.Run.{ended, oneMore, afterStep, noStepsLeft, ran, Says, Told}
 use Rattle.machine.specs.declared.Registers.{Registers}
 use Rattle.machine.specs.declared.StepAnswer.{StepAnswer}
 use Rattle.machine.specs.declared.StepAnswer.the-variants as Step
@@ -16,16 +16,6 @@ use Rattle.machine.specs.declared.RunAnswer.{RunAnswer}
 use Rattle.machine.specs.declared.RunAnswer.the-variants.{Finished, Spent, Trap, Refused}
 use Rattle.machine.specs.declared.Ran.{Ran}
 use Rattle.machine.proofs.StepEffect.{by-test, finished-step}
-
--- what an answer says of a run with a budget
-abbrev pub Says : ℕ → Ran → RunAnswer → Type 0
-Says budget r Finished = r .registers .pc ≡ 0
-Says budget r Spent = (r .steps ≡ budget) × (r .registers .pc ≡ 0 → ⊥)
-Says budget r (Trap number) = Unit {0}
-Says budget r (Refused number) = Unit {0}
-
-abbrev pub Told : ℕ → Ran × List ℕ → Type 0
-Told budget r = Says budget (r .0) (r .0 .answer)
 
 -- one step more
 more : (budget : ℕ) (r : Ran × List ℕ) (answer : RunAnswer) → Says budget (r .0) answer → Says (suc budget) (oneMore r .0) answer

@@ -1,139 +1,162 @@
--- What a step changes, by its effect alone. A step that is not made changes nothing; one that is made moves SP by the pops and pushes of
--- its effect, and changes no byte but those that the effect names.
-use Prim.Native.Nat.{ℕ, suc, _+_, _-_, _%_, _≤_, _<_}
+-- What a step changes: one that is not made changes nothing, and one that is made changes what its effect says.
+use Prim.Native.Nat.{ℕ, _+_, _-_, _%_, _≤_, _<_}
 use mathlib.Core.Path.{_≡_, refl, sym, ap, _∙_}
 use mathlib.Core.Bool.{Bool, true, false, cond, true≢false}
 use mathlib.Core.List.{List, [], _∷_}
 use mathlib.Core.Logic.{_⊎_, inl, inr, ⊎-elim}
 use native.Mathlib.Omega.{arith}
+use native.Mathlib.Nat.{mod-eq-of-lt}
 use lib.Dec.{eqb}
-use lib.ListN.{getD, set, length, drop}
-use lib.Seq.{sets, length-sets, getD-set-other}
-use borrow.Author.Tests.{eqb-true, eqb-false}
+use lib.ListN.{getD, length, drop}
+use lib.Seq.{sets}
+use borrow.Author.Tests.{eqb-true, eqb-false, ltb-true}
 use Rattle.numbers.specs.Checks.{first}
 use Rattle.numbers.specs.Words.{high, low}
-use Rattle.numbers.proofs.Checking.{first-zero}
+use Rattle.numbers.proofs.Checking.{first-zero, under-zero, differ-zero, unless-zero}
+use Rattle.numbers.proofs.Folding.{passed}
 use Rattle.stm8.specs.Decoding.{decoded}
-use Rattle.stm8.specs.Effects.{bytesWide, fallsThrough, effect}
+use Rattle.stm8.specs.Effects.{fallsThrough, effect}
 use Rattle.stm8.specs.declared.Width.{Width}
-use Rattle.stm8.specs.declared.Width.the-variants.{Byte, Word}
 use Rattle.stm8.specs.declared.Place.{Place}
 use Rattle.stm8.specs.declared.Place.the-variants.{Nowhere, Direct, OnStack, Pushed}
-use Rattle.stm8.specs.declared.Flow.the-variants.{Branch, Jump}
+use Rattle.stm8.specs.declared.Flow.{Flow}
+use Rattle.stm8.specs.declared.Flow.the-variants.{Next, Branch, Jump, Call, CallRelative, Return}
 use Rattle.stm8.specs.declared.Effect.{Effect}
 use Rattle.stm8.specs.declared.Instruction.{Instruction}
 use Rattle.stm8.specs.declared.Instruction.the-variants as I
 use Rattle.stm8.specs.declared.Decoded.{Decoded}
 use Rattle.stm8.specs.declared.Decoded.the-variants.{Found, Outside, Truncated}
 use Rattle.image.specs.declared.Limits.{Limits}
-use Rattle.image.specs.Image.{baseOf, codeOf}
+use Rattle.image.specs.Image.{baseOf, codeOf, layoutOf}
+use Rattle.image.specs.Rules.{LimitsRules}
+use Rattle.image.specs.Validation.{validated}
+use Rattle.image.proofs.ValidLayout.{valid-limits}
+use Rattle.machine.specs.Reading.{readWord}
 use Rattle.machine.specs.Computing.{computed}
-use Rattle.machine.specs.Step.{Result, result, spTrap, pcTrap, effectTrap, calls, spAfter, pcAfter, bytesOfWidth, memoryAfter, made, decodedStep, stepValid, stepRefusal, stepped}
+use Rattle.machine.specs.Step.{Result, result, spTrap, pcTrap, moveTrap, callTrap, effectTrap, calls, spAfter, pcAfter, bytesOfWidth, memoryAfter, made, decodedStep, stepValid, stepRefusal, stepped}
+use Rattle.machine.specs.Changes.{Covers, Names, GoesTo, Changes, MadeStep}
 use Rattle.machine.specs.declared.Registers.{Registers}
 use Rattle.machine.specs.declared.StepAnswer.{StepAnswer}
 use Rattle.machine.specs.declared.StepAnswer.the-variants.{Made, Finished, Trap, Refused}
+use Rattle.machine.proofs.Stores.{sets-other, word-stored, read-memory, bytes-length, size-kept}
 
--- the bytes that a place names: where they begin, and how many they are
-abbrev pub storedAt : ℕ → Effect → Place → ℕ
-storedAt sp e Nowhere = 0
-storedAt sp e (Direct a w) = a
-storedAt sp e (OnStack f w) = sp + f
-storedAt sp e (Pushed w) = spAfter sp e + 1
+-- memory: the bytes that a place does not name
+stored-other : (memory : List ℕ) (at : ℕ) (w : Width) (value address : ℕ) → (Covers at w address → ⊥) →
+    getD (sets memory at (bytesOfWidth w value)) address 0 ≡ getD memory address 0
+stored-other memory at w value address outside =
+    sets-other (bytesOfWidth w value) memory at address (λ low high. outside (low, omega (arith, bytes-length w value)))
 
-abbrev pub storedBytes : Place → ℕ
-storedBytes Nowhere = 0
-storedBytes (Direct a w) = bytesWide w
-storedBytes (OnStack f w) = bytesWide w
-storedBytes (Pushed w) = bytesWide w
+other-bytes : (memory : List ℕ) (sp : ℕ) (e : Effect) (value : ℕ) (place : Place) (address : ℕ) → (Names sp (spAfter sp e) place address → ⊥) →
+    getD (memoryAfter memory sp e value place) address 0 ≡ getD memory address 0
+unfolding memoryAfter
+other-bytes memory sp e value Nowhere address outside = refl
+other-bytes memory sp e value (Direct a w) address outside = stored-other memory a w value address outside
+other-bytes memory sp e value (OnStack f w) address outside = stored-other memory (sp + f) w value address outside
+other-bytes memory sp e value (Pushed w) address outside = stored-other memory (spAfter sp e + 1) w value address outside
 
--- a stored value changes the bytes from an address on, one or two, and no others
-set-misses : (memory : List ℕ) (at a : ℕ) (w : Width) (value : ℕ) → ((a < at) ⊎ (at + bytesWide w ≤ a)) →
-    getD (sets memory at (bytesOfWidth w value)) a 0 ≡ getD memory a 0
-set-misses memory at a Byte value (inl h) = getD-set-other memory at a (low value) 0 (λ z. omega arith)
-set-misses memory at a Byte value (inr h) = getD-set-other memory at a (low value) 0 (λ z. omega arith)
-set-misses memory at a Word value (inl h) =
-    getD-set-other (set memory at (high value)) (suc at) a (low value) 0 (λ z. omega arith) ∙ getD-set-other memory at a (high value) 0 (λ z. omega arith)
-set-misses memory at a Word value (inr h) =
-    getD-set-other (set memory at (high value)) (suc at) a (low value) 0 (λ z. omega arith) ∙ getD-set-other memory at a (high value) 0 (λ z. omega arith)
+-- PC
+goes-to : (image memory : List ℕ) (sp next : ℕ) (taken : Bool) (flow : Flow) →
+    GoesTo next (readWord image memory (sp + 1)) flow (pcAfter image memory sp next taken flow)
+unfolding pcAfter
+goes-to image memory sp next taken Next = refl
+goes-to image memory sp next true (Branch n) = inl refl
+goes-to image memory sp next false (Branch n) = inr refl
+goes-to image memory sp next taken (Jump n) = refl
+goes-to image memory sp next taken (Call a) = refl
+goes-to image memory sp next taken (CallRelative n) = refl
+goes-to image memory sp next taken Return = refl
 
-module _ (memory : List ℕ) (sp : ℕ) (e : Effect) (value : ℕ) where
-  pub other-bytes : (place : Place) (a : ℕ) → ((a < storedAt sp e place) ⊎ (storedAt sp e place + storedBytes place ≤ a)) →
-      getD (memoryAfter memory sp e value place) a 0 ≡ getD memory a 0
-  unfolding memoryAfter
-  other-bytes Nowhere a h = refl
-  other-bytes (Direct b w) a h = set-misses memory b a w value h
-  other-bytes (OnStack f w) a h = set-misses memory (sp + f) a w value h
-  other-bytes (Pushed w) a h = set-misses memory (spAfter sp e + 1) a w value h
+-- SP, where 24 is not due
+module _ (limits : Limits) (areas : LimitsRules limits) (sp next : ℕ) (e : Effect) (allowed : effectTrap limits sp next e ≡ 0) where
+  sp-moves : (sp + e .pops ≤ limits .stack .high) × (spAfter sp e + e .pushes ≡ sp + e .pops)
+  unfolding effectTrap moveTrap
+  sp-moves =
+      let ends = first-zero _ _ (passed _ allowed .0) in
+      let low = areas .stackLow in
+      let room = under-zero _ _ 23 (ends .1) in
+      (under-zero _ _ 23 (ends .0), omega arith)
 
-  pub same-length : (place : Place) → length (memoryAfter memory sp e value place) ≡ length memory
-  unfolding memoryAfter
-  same-length Nowhere = refl
-  same-length (Direct b w) = length-sets memory b (bytesOfWidth w value)
-  same-length (OnStack f w) = length-sets memory (sp + f) (bytesOfWidth w value)
-  same-length (Pushed w) = length-sets memory (spAfter sp e + 1) (bytesOfWidth w value)
+  -- and the address after a call, where 22 is not due
+  next-word : calls (e .flow) ≡ true → next < 0x10000
+  unfolding effectTrap callTrap
+  next-word call = ltb-true _ _ (unless-zero _ 21 (rw call at (passed _ allowed .1 .1 .0)))
 
--- what an instruction of an effect, with the address after it, leaves: a value stored where the effect says, and the address itself by a call
-pub record Moved (image : List ℕ) (regs : Registers) (memory : List ℕ) (next : ℕ) (e : Effect) (after : Result) : Type 0 where
-  pub taken : Bool
-  pub value : ℕ
-  pub answer : after .0 .answer ≡ Made
-  pub sp : after .0 .registers .sp ≡ spAfter (regs .sp) e
-  pub pc : after .0 .registers .pc ≡ pcAfter image memory (regs .sp) next taken (e .flow)
-  pub stored : after .1 ≡ memoryAfter memory (regs .sp) e value (e .place)
-  pub returns : calls (e .flow) ≡ true → value ≡ next % 0x10000
-  pub bytes : (a : ℕ) → ((a < storedAt (regs .sp) e (e .place)) ⊎ (storedAt (regs .sp) e (e .place) + storedBytes (e .place) ≤ a)) →
-      getD (after .1) a 0 ≡ getD memory a 0
-  pub size : length (after .1) ≡ length memory
-
+-- a call
 jump-calls : (falls : Bool) (n : ℕ) → calls (cond falls (Branch n) (Jump n)) ≡ true → ⊥
 jump-calls true n h = true≢false (sym h)
 jump-calls false n h = true≢false (sym h)
 
 module _ (image : List ℕ) (regs : Registers) (memory : List ℕ) (next : ℕ) where
-  call-stores : (i : Instruction) → calls (effect i .flow) ≡ true → computed image memory regs next i .stored ≡ next % 0x10000
-  unfolding computed
-  call-stores (I.Alu o x) h = absurd (true≢false (sym h))
-  call-stores (I.Store x) h = absurd (true≢false (sym h))
-  call-stores (I.LoadHalf r k) h = absurd (true≢false (sym h))
-  call-stores (I.StoreHalf r k) h = absurd (true≢false (sym h))
-  call-stores (I.Modify o x) h = absurd (true≢false (sym h))
-  call-stores (I.LoadWord r x) h = absurd (true≢false (sym h))
-  call-stores (I.StoreWord r x) h = absurd (true≢false (sym h))
-  call-stores (I.CopyWord r) h = absurd (true≢false (sym h))
-  call-stores (I.WordAlu o r w) h = absurd (true≢false (sym h))
-  call-stores (I.WordModify o r) h = absurd (true≢false (sym h))
-  call-stores (I.Pushw r) h = absurd (true≢false (sym h))
-  call-stores (I.Popw r) h = absurd (true≢false (sym h))
-  call-stores I.Exgw h = absurd (true≢false (sym h))
-  call-stores (I.Mul r) h = absurd (true≢false (sym h))
-  call-stores (I.Bit o n a) h = absurd (true≢false (sym h))
-  call-stores (I.BitJump o n a j) h = absurd (true≢false (sym h))
-  call-stores (I.Mov to from) h = absurd (true≢false (sym h))
-  call-stores (I.Push x) h = absurd (true≢false (sym h))
-  call-stores (I.Pop x) h = absurd (true≢false (sym h))
-  call-stores (I.SubSp n) h = absurd (true≢false (sym h))
-  call-stores (I.AddSp n) h = absurd (true≢false (sym h))
-  call-stores (I.Jump o n) h = absurd (jump-calls (fallsThrough o) n h)
-  call-stores (I.Call a) h = refl
-  call-stores (I.Callr n) h = refl
-  call-stores I.Ret h = absurd (true≢false (sym h))
-  call-stores I.Nop h = absurd (true≢false (sym h))
-  call-stores (I.Flag o) h = absurd (true≢false (sym h))
+  -- a call stores the address after it just above the new SP
+  pushed-by-call : (i : Instruction) → calls (effect i .flow) ≡ true →
+      (effect i .pops ≡ 0) × (effect i .pushes ≡ 2) ×
+      (memoryAfter memory (regs .sp) (effect i) (computed image memory regs next i .stored) (effect i .place) ≡
+      sets memory (spAfter (regs .sp) (effect i) + 1) (high (next % 0x10000) ∷ low (next % 0x10000) ∷ []))
+  unfolding computed memoryAfter
+  pushed-by-call (I.Alu o x) h = absurd (true≢false (sym h))
+  pushed-by-call (I.Store x) h = absurd (true≢false (sym h))
+  pushed-by-call (I.LoadHalf r k) h = absurd (true≢false (sym h))
+  pushed-by-call (I.StoreHalf r k) h = absurd (true≢false (sym h))
+  pushed-by-call (I.Modify o x) h = absurd (true≢false (sym h))
+  pushed-by-call (I.LoadWord r x) h = absurd (true≢false (sym h))
+  pushed-by-call (I.StoreWord r x) h = absurd (true≢false (sym h))
+  pushed-by-call (I.CopyWord r) h = absurd (true≢false (sym h))
+  pushed-by-call (I.WordAlu o r w) h = absurd (true≢false (sym h))
+  pushed-by-call (I.WordModify o r) h = absurd (true≢false (sym h))
+  pushed-by-call (I.Pushw r) h = absurd (true≢false (sym h))
+  pushed-by-call (I.Popw r) h = absurd (true≢false (sym h))
+  pushed-by-call I.Exgw h = absurd (true≢false (sym h))
+  pushed-by-call (I.Mul r) h = absurd (true≢false (sym h))
+  pushed-by-call (I.Bit o n a) h = absurd (true≢false (sym h))
+  pushed-by-call (I.BitJump o n a j) h = absurd (true≢false (sym h))
+  pushed-by-call (I.Mov to from) h = absurd (true≢false (sym h))
+  pushed-by-call (I.Push x) h = absurd (true≢false (sym h))
+  pushed-by-call (I.Pop x) h = absurd (true≢false (sym h))
+  pushed-by-call (I.SubSp n) h = absurd (true≢false (sym h))
+  pushed-by-call (I.AddSp n) h = absurd (true≢false (sym h))
+  pushed-by-call (I.Jump o n) h = absurd (jump-calls (fallsThrough o) n h)
+  pushed-by-call (I.Call a) h = (refl, refl, refl)
+  pushed-by-call (I.Callr n) h = (refl, refl, refl)
+  pushed-by-call I.Ret h = absurd (true≢false (sym h))
+  pushed-by-call I.Nop h = absurd (true≢false (sym h))
+  pushed-by-call (I.Flag o) h = absurd (true≢false (sym h))
 
-  pub moves : (i : Instruction) → Moved image regs memory next (effect i) (made image regs memory next i)
-  unfolding made
-  moves i =
-      record {
-        taken = computed image memory regs next i .taken;
-        value = computed image memory regs next i .stored;
-        answer = refl;
-        sp = refl;
-        pc = refl;
-        stored = refl;
-        returns = call-stores i;
-        bytes = other-bytes memory (regs .sp) (effect i) (computed image memory regs next i .stored) (effect i .place);
-        size = same-length memory (regs .sp) (effect i) (computed image memory regs next i .stored) (effect i .place);
-      }
+module _ (image : List ℕ) (limits : Limits) (regs : Registers) (memory : List ℕ) (accepted : stepRefusal image limits memory ≡ 0) where
+  areas-hold : LimitsRules limits
+  unfolding stepRefusal validated
+  areas-hold = valid-limits image limits (layoutOf image) (rw (first-zero _ _ accepted .1))
+
+  memory-size : length memory ≡ 32768
+  unfolding stepRefusal
+  memory-size = differ-zero _ _ 16 (first-zero _ _ accepted .0)
+
+  module _ (next : ℕ) (i : Instruction) (allowed : effectTrap limits (regs .sp) next (effect i) ≡ 0) where
+    next-pushed : calls (effect i .flow) ≡ true →
+        readWord image (made image regs memory next i .1) (spAfter (regs .sp) (effect i) + 1) ≡ next
+    unfolding made
+    next-pushed call =
+        let by-call = pushed-by-call image regs memory next i call in
+        let moves = sp-moves limits areas-hold (regs .sp) next (effect i) allowed in
+        let at = spAfter (regs .sp) (effect i) + 1 in
+        let inside : at + 1 < 0x8000 = omega (arith, areas-hold .stack .high, moves .0, moves .1, by-call .0, by-call .1) in
+        rw (
+          by-call .2,
+          read-memory image (sets memory at (high (next % 0x10000) ∷ low (next % 0x10000) ∷ [])) at inside,
+          word-stored memory at (next % 0x10000) (omega (arith, memory-size)),
+        )
+        (mod-eq-of-lt (next-word limits areas-hold (regs .sp) next (effect i) allowed call))
+
+    made-changes : Changes image next (effect i) regs memory (made image regs memory next i .0 .registers) (made image regs memory next i .1)
+    unfolding made
+    made-changes =
+        let c = computed image memory regs next i in
+        record {
+          sp = sp-moves limits areas-hold (regs .sp) next (effect i) allowed .1;
+          pc = goes-to image memory (regs .sp) next (c .taken) (effect i .flow);
+          size = size-kept memory (regs .sp) (effect i) (c .stored) (effect i .place);
+          bytes = other-bytes memory (regs .sp) (effect i) (c .stored) (effect i .place);
+          pushed = next-pushed;
+        }
 
 -- by the two cases of a test
 pub by-test : {A : Type 0} (P : A → Type 0) (t : Bool) {x y : A} → (t ≡ true → P x) → (t ≡ false → P y) → P (cond t x y)
@@ -162,45 +185,40 @@ module _ (image : List ℕ) (limits : Limits) (regs : Registers) (memory : List 
     pub finished : after .0 .answer ≡ Finished → regs .pc ≡ 0
     pub is : after ≡ result (after .0 .answer) regs memory
 
-  -- a step that is made: no refusal and no trap, an instruction at PC, and what its effect moves
-  pub record MadeStep (after : Result) : Type 0 where
-    pub instruction : Instruction
-    pub length : ℕ
-    pub accepted : stepRefusal image limits memory ≡ 0
-    pub started : regs .pc ≡ 0 → ⊥
-    pub sp : spTrap limits (regs .sp) ≡ 0
-    pub pc : pcTrap image (regs .pc) ≡ 0
-    pub found : decoded (drop (regs .pc - baseOf image) (codeOf image)) ≡ Found instruction length
-    pub allowed : effectTrap limits (regs .sp) (regs .pc + length) (effect instruction) ≡ 0
-    pub moved : Moved image regs memory (regs .pc + length) (effect instruction) after
+  -- a step that is made
+  pub record MadeByEffect (after : Result) : Type 0 where
+    pub answer : after .0 .answer ≡ Made
+    pub step : MadeStep image regs memory (after .0 .registers) (after .1)
 
   abbrev Way : Result → Type 0
-  Way after = Kept after ⊎ MadeStep after
+  Way after = Kept after ⊎ MadeByEffect after
 
   trap-keeps : (n : ℕ) → Way (result (Trap n) regs memory)
   trap-keeps n = inl (record { answer = not-made-trap n; finished = λ h. absurd (not-finished-trap n h); is = refl })
 
   module _ (accepted : stepRefusal image limits memory ≡ 0) where
-    decoded-way : (regs .pc ≡ 0 → ⊥) → spTrap limits (regs .sp) ≡ 0 → pcTrap image (regs .pc) ≡ 0 →
-        (d : Decoded) → decoded (drop (regs .pc - baseOf image) (codeOf image)) ≡ d → Way (decodedStep image limits regs memory d)
-    unfolding decodedStep
-    decoded-way started sp pc Outside e = trap-keeps 23
-    decoded-way started sp pc Truncated e = trap-keeps 22
-    decoded-way started sp pc (Found i n) e =
-        by-test Way (eqb (effectTrap limits (regs .sp) (regs .pc + n) (effect i)) 0)
-        (λ t. inr
+    made-way : (i : Instruction) (n : ℕ) → decoded (drop (regs .pc - baseOf image) (codeOf image)) ≡ Found i n →
+        effectTrap limits (regs .sp) (regs .pc + n) (effect i) ≡ 0 → Way (made image regs memory (regs .pc + n) i)
+    unfolding made
+    made-way i n found allowed =
+        inr
         (record {
-          instruction = i;
-          length = n;
-          accepted = accepted;
-          started = started;
-          sp = sp;
-          pc = pc;
-          found = e;
-          allowed = eqb-true _ _ t;
-          moved = moves image regs memory (regs .pc + n) i;
-        }))
-        (λ t. trap-keeps _)
+          answer = refl;
+          step =
+              record {
+                instruction = i;
+                size = n;
+                found = found;
+                changes = made-changes image limits regs memory accepted (regs .pc + n) i allowed;
+              };
+        })
+
+    decoded-way : (d : Decoded) → decoded (drop (regs .pc - baseOf image) (codeOf image)) ≡ d → Way (decodedStep image limits regs memory d)
+    unfolding decodedStep
+    decoded-way Outside e = trap-keeps 23
+    decoded-way Truncated e = trap-keeps 22
+    decoded-way (Found i n) e =
+        by-test Way (eqb (effectTrap limits (regs .sp) (regs .pc + n) (effect i)) 0) (λ t. made-way i n e (eqb-true _ _ t)) (λ t. trap-keeps _)
 
     valid-way : Way (stepValid image limits regs memory)
     unfolding stepValid
@@ -208,8 +226,7 @@ module _ (image : List ℕ) (limits : Limits) (regs : Registers) (memory : List 
         by-test Way (eqb (regs .pc) 0)
         (λ t. inl (record { answer = not-made-finished; finished = λ h. eqb-true _ _ t; is = refl }))
         (λ t. by-test Way (eqb (first (spTrap limits (regs .sp)) (pcTrap image (regs .pc))) 0)
-        (λ u. let passed = first-zero (spTrap limits (regs .sp)) (pcTrap image (regs .pc)) (eqb-true _ _ u) in
-        decoded-way (eqb-false _ _ t) (passed .0) (passed .1) _ refl)
+        (λ u. decoded-way _ refl)
         (λ u. trap-keeps _))
 
   way : Way (stepped image limits regs memory)
@@ -221,10 +238,11 @@ module _ (image : List ℕ) (limits : Limits) (regs : Registers) (memory : List 
 
   pub kept-step : (stepped image limits regs memory .0 .answer ≡ Made → ⊥) →
       stepped image limits regs memory ≡ result (stepped image limits regs memory .0 .answer) regs memory
-  kept-step other = ⊎-elim (λ k. k .is) (λ m. absurd (other (m .moved .answer))) way
+  kept-step other = ⊎-elim (λ k. k .is) (λ m. absurd (other (m .answer))) way
 
   pub finished-step : stepped image limits regs memory .0 .answer ≡ Finished → regs .pc ≡ 0
-  finished-step h = ⊎-elim (λ k. k .finished h) (λ m. absurd (not-made-finished (sym h ∙ m .moved .answer))) way
+  finished-step h = ⊎-elim (λ k. k .finished h) (λ m. absurd (not-made-finished (sym h ∙ m .answer))) way
 
-  pub made-step : stepped image limits regs memory .0 .answer ≡ Made → MadeStep (stepped image limits regs memory)
-  made-step h = ⊎-elim (λ k. absurd (k .answer h)) (λ m. m) way
+  pub made-step : stepped image limits regs memory .0 .answer ≡ Made →
+      MadeStep image regs memory (stepped image limits regs memory .0 .registers) (stepped image limits regs memory .1)
+  made-step h = ⊎-elim (λ k. absurd (k .answer h)) (λ m. m .step) way

@@ -2,3 +2,4 @@ pub mod Reading
 pub mod Computing
 pub mod Step
 pub mod Run
+pub mod Changes

@@ -1,5 +1,6 @@
 -- A run: steps until the routine finishes, traps or the steps are used up.
 use Prim.Native.Nat.{ℕ, zero, suc, _+_}
+use mathlib.Core.Path.{_≡_}
 use mathlib.Core.Bool.{cond}
 use mathlib.Core.List.{List}
 use lib.Dec.{eqb}
@@ -44,3 +45,13 @@ runNumber Finished = 0
 runNumber Spent = 0
 runNumber (Trap number) = number
 runNumber (Refused number) = number
+
+-- what an answer says of a run with a budget: finished, PC is 0; spent, the steps equal the budget and PC is not 0
+abbrev pub Says : ℕ → Ran → RunAnswer → Type 0
+Says budget r Finished = r .registers .pc ≡ 0
+Says budget r Spent = (r .steps ≡ budget) × (r .registers .pc ≡ 0 → ⊥)
+Says budget r (Trap number) = Unit {0}
+Says budget r (Refused number) = Unit {0}
+
+abbrev pub Told : ℕ → Ran × List ℕ → Type 0
+Told budget r = Says budget (r .0) (r .0 .answer)

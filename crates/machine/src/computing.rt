@@ -39,7 +39,7 @@ impl Registers {
     }
 
     // An instruction, with the address after it.
-    pub fn compute(self, image: &[u8], memory: &[u8], next: u32, i: Instruction) -> Computed
+    pub(crate) fn compute(self, image: &[u8], memory: &[u8], next: u32, i: Instruction) -> Computed
         ensures { λ r. ⌜ r ≡ computed (now (image .entry)) (now (memory .entry)) self next i ⌝ }
     {
         let a = self.a;

@@ -94,7 +94,7 @@ impl Registers {
         }
     }
 
-    pub fn answer(self, answer: StepAnswer) -> Stepped
+    pub(crate) fn answer(self, answer: StepAnswer) -> Stepped
         ensures { λ r. ⌜ r ≡ record { answer = answer; registers = self } ⌝ }
     {
         Stepped {
@@ -104,7 +104,14 @@ impl Registers {
     }
 
     // Puts in place what an instruction computed and what its effect moves.
-    pub fn made(self, image: &[u8], memory: &mut [u8], next: u32, c: Computed, e: Effect) -> Stepped
+    pub(crate) fn made(
+        self,
+        image: &[u8],
+        memory: &mut [u8],
+        next: u32,
+        c: Computed,
+        e: Effect,
+    ) -> Stepped
         requires { ⌜ self .sp + e .pops < 0x10000 ⌝ }
         requires { ⌜ next < 0x1000000 ⌝ }
         ensures { λ r. ⌜ result StepAnswer.Made (registersAfter (now (image .entry)) (now (memory .entry)) self next c e) (memoryAfter (now (memory .entry)) (self .sp) e (c .stored) (e .place)) ≡ (r, now (memory .exit)) ⌝ }

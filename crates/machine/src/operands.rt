@@ -19,7 +19,7 @@ pub fn offset_of(f: Offset) -> u16
 }
 
 impl Registers {
-    pub fn index(self, r: Register) -> u16
+    pub(crate) fn index(self, r: Register) -> u16
         ensures { λ v. ⌜ v ≡ indexOf self r ⌝ }
     {
         match r {
@@ -28,7 +28,7 @@ impl Registers {
         }
     }
 
-    pub fn operand_byte(self, image: &[u8], memory: &[u8], x: Operand) -> u8
+    pub(crate) fn operand_byte(self, image: &[u8], memory: &[u8], x: Operand) -> u8
         ensures { λ r. ⌜ r ≡ byteOf (now (image .entry)) (now (memory .entry)) self x ⌝ }
     {
         match x {
@@ -46,7 +46,7 @@ impl Registers {
         }
     }
 
-    pub fn operand_word(self, image: &[u8], memory: &[u8], x: Operand) -> u16
+    pub(crate) fn operand_word(self, image: &[u8], memory: &[u8], x: Operand) -> u16
         ensures { λ r. ⌜ r ≡ wordOf (now (image .entry)) (now (memory .entry)) self x ⌝ }
     {
         match x {

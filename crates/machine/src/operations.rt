@@ -24,7 +24,7 @@ use stm8::WordAluOp;
 use stm8::WordModifyOp;
 
 impl Registers {
-    pub fn alu(self, o: AluOp, m: u8) -> ByteResult
+    pub(crate) fn alu(self, o: AluOp, m: u8) -> ByteResult
         ensures { λ r. ⌜ r ≡ aluResult o (self .a) m (self .cc) ⌝ }
     {
         match o {
@@ -41,7 +41,7 @@ impl Registers {
         }
     }
 
-    pub fn modify(self, o: ModifyOp, m: u8) -> ByteResult
+    pub(crate) fn modify(self, o: ModifyOp, m: u8) -> ByteResult
         ensures { λ r. ⌜ r ≡ modifyResult o m (self .cc) ⌝ }
     {
         match o {
@@ -60,7 +60,7 @@ impl Registers {
         }
     }
 
-    pub fn word_alu(self, o: WordAluOp, x: u16, m: u16) -> WordResult
+    pub(crate) fn word_alu(self, o: WordAluOp, x: u16, m: u16) -> WordResult
         ensures { λ r. ⌜ r ≡ wordAluResult o x m (self .cc) ⌝ }
     {
         match o {
@@ -70,7 +70,7 @@ impl Registers {
         }
     }
 
-    pub fn word_modify(self, o: WordModifyOp, x: u16) -> WordResult
+    pub(crate) fn word_modify(self, o: WordModifyOp, x: u16) -> WordResult
         ensures { λ r. ⌜ r ≡ wordModifyResult o x (self .cc) ⌝ }
     {
         match o {
@@ -80,7 +80,7 @@ impl Registers {
         }
     }
 
-    pub fn bit(self, o: BitOp, position: u8, m: u8) -> u8
+    pub(crate) fn bit(self, o: BitOp, position: u8, m: u8) -> u8
         ensures { λ r. ⌜ r ≡ bitResult o position m (self .cc) ⌝ }
     {
         match o {
@@ -92,7 +92,7 @@ impl Registers {
     }
 
     // CC after an operation on a flag.
-    pub fn flag(self, o: FlagOp) -> u8
+    pub(crate) fn flag(self, o: FlagOp) -> u8
         ensures { λ r. ⌜ r ≡ flagResult o (self .cc) ⌝ }
     {
         match o {
@@ -104,7 +104,7 @@ impl Registers {
     }
 
     // Whether a condition holds.
-    pub fn holds(self, o: Condition) -> bool
+    pub(crate) fn holds(self, o: Condition) -> bool
         ensures { λ r. ⌜ r ≡ holdsOf o (self .cc) ⌝ }
     {
         match o {

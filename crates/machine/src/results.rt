@@ -9,7 +9,7 @@ use stm8::Operand;
 use stm8::Register;
 
 impl Registers {
-    pub fn unchanged(self) -> Computed
+    pub(crate) fn unchanged(self) -> Computed
         ensures { λ r. ⌜ r ≡ unchangedOf self ⌝ }
     {
         Computed {
@@ -22,7 +22,7 @@ impl Registers {
         }
     }
 
-    pub fn with_a(self, result: ByteResult) -> Computed
+    pub(crate) fn with_a(self, result: ByteResult) -> Computed
         ensures { λ r. ⌜ r ≡ withA self result ⌝ }
     {
         Computed {
@@ -35,7 +35,7 @@ impl Registers {
         }
     }
 
-    pub fn with_index(self, r: Register, result: WordResult) -> Computed
+    pub(crate) fn with_index(self, r: Register, result: WordResult) -> Computed
         ensures { λ c. ⌜ c ≡ withIndex self r result ⌝ }
     {
         match r {
@@ -58,7 +58,7 @@ impl Registers {
         }
     }
 
-    pub fn exchanged(self) -> Computed
+    pub(crate) fn exchanged(self) -> Computed
         ensures { λ r. ⌜ r ≡ exchangedOf self ⌝ }
     {
         Computed {
@@ -71,7 +71,7 @@ impl Registers {
         }
     }
 
-    pub fn storing(self, value: u16, cc: u8) -> Computed
+    pub(crate) fn storing(self, value: u16, cc: u8) -> Computed
         ensures { λ r. ⌜ r ≡ storingOf self value cc ⌝ }
     {
         Computed {
@@ -84,7 +84,7 @@ impl Registers {
         }
     }
 
-    pub fn testing(self, taken: bool, cc: u8) -> Computed
+    pub(crate) fn testing(self, taken: bool, cc: u8) -> Computed
         ensures { λ r. ⌜ r ≡ testingOf self taken cc ⌝ }
     {
         Computed {
@@ -98,7 +98,7 @@ impl Registers {
     }
 
     // Into A, or to the place that the effect names.
-    pub fn into_operand(self, x: Operand, result: ByteResult) -> Computed
+    pub(crate) fn into_operand(self, x: Operand, result: ByteResult) -> Computed
         ensures { λ r. ⌜ r ≡ intoOperand self x result ⌝ }
     {
         match x {

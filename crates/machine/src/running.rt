@@ -12,7 +12,7 @@ use image::Limits;
 
 impl Registers {
     // An answer before any step.
-    pub fn ended(self, answer: RunAnswer) -> Ran
+    pub(crate) fn ended(self, answer: RunAnswer) -> Ran
         ensures { λ r. ⌜ r ≡ record { answer = answer; registers = self; steps = 0 } ⌝ }
     {
         Ran {
@@ -23,7 +23,7 @@ impl Registers {
     }
 
     // The length tables are built once and lent to each step.
-    pub fn run(
+    pub(crate) fn run(
         self,
         image: &[u8],
         layout: Layout,

@@ -86,7 +86,7 @@ impl Registers {
     }
 
     // One step, by a table of lengths for each page.
-    pub fn step(
+    pub(crate) fn step(
         self,
         image: &[u8],
         layout: Layout,

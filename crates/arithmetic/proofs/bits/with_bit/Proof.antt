@@ -7,13 +7,19 @@ use Rattle.arithmetic.proofs.bits.with_bit.Statement.{statement}
 use Rattle.arithmetic.proofs.bits.with_bit.Tie as tie
 
 sub-result : tie.Need-sub-result
-sub-result c = rw (c .bit .ensures) (old-bit-le (c .before .before .args .position) (c .before .before .args .value) (c .before .before .args .holds) (c .before .if1 .taken) (c .before .before .fits .value .fits))
+sub-result c =
+    let b = c .before .before in
+    rw (c .bit .ensures) (old-bit-le (b .args .position) (b .args .value) (b .args .holds) (c .before .if1 .taken) (b .fits .value .fits))
 
 add-result : tie.Need-add-result
-add-result c = record { fits = rw (c .flag .ensures, c .before .bit .ensures) (exchanged-fits (c .before .before .before .args .position) (c .before .before .before .args .value) (c .before .before .before .args .holds) (c .before .before .if1 .taken) (c .before .before .before .fits .value .fits)) }
+add-result c =
+    let b = c .before .before .before in
+    record { fits = rw (c .flag .ensures, c .before .bit .ensures) (exchanged-fits (b .args .position) (b .args .value) (b .args .holds) (c .before .before .if1 .taken) (b .fits .value .fits)) }
 
 returns : tie.Need-returns
-returns c = rw (c .flag .ensures, c .before .bit .ensures) (exchanged (c .before .before .before .args .position) (c .before .before .before .args .value) (c .before .before .before .args .holds) (c .before .before .if1 .taken) (c .before .before .before .fits .value .fits))
+returns c =
+    let b = c .before .before .before in
+    rw (c .flag .ensures, c .before .bit .ensures) (exchanged (b .args .position) (b .args .value) (b .args .holds) (c .before .before .if1 .taken) (b .fits .value .fits))
 
 returns-2 : tie.Need-returns-2
 unfolding withBit

@@ -1,16 +1,10 @@
--- `arithmetic::modify::sll` meets its contract: to double the low seven bits is to double modulo 256.
-use Prim.Native.Nat.{_*_, _%_}
-use mathlib.Core.Path.{_≡_}
-use native.Mathlib.Omega.{arith}
+-- `arithmetic::modify::sll` meets its contract.
 use borrow.Author.Needs.{needs}
+use Rattle.arithmetic.proofs.SumLaws.{doubled}
 use Rattle.arithmetic.proofs.modify.sll.Statement.{statement}
 use Rattle.arithmetic.proofs.modify.sll.Tie as tie
 
-returns : tie.Need-returns
-returns c =
-    let m = c .before .before .args .m in
-    let doubled : m % 128 * 2 ≡ m * 2 % 256 = omega arith in
-    cc doubled
-
 pub sll-spec : {M : Type 1} → statement M
-sll-spec = tie.close (tie.spec (λ c. search needs) (λ c κs. search needs) (λ c κs. search needs) returns)
+sll-spec =
+    tie.close
+    (tie.spec (λ c. search needs) (λ c κs. search needs) (λ c κs. search needs) (λ c. cc (doubled (c .before .before .args .m))))

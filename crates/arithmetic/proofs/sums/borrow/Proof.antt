@@ -1,4 +1,4 @@
--- `arithmetic::sums::borrow` meets its contract.
+-- `arithmetic::sums::borrow` meets its contract: the limit is 2 to the power of n + 1.
 use native.Mathlib.Omega.{arith}
 use borrow.Author.Needs.{needs}
 use Rattle.arithmetic.specs.Sums.{borrowOut}

@@ -1,4 +1,4 @@
--- `arithmetic::sums::word_difference` meets its contract.
+-- `arithmetic::sums::word_difference` meets its contract: what wraps back to a is the difference.
 use native.Mathlib.Omega.{arith}
 use borrow.Author.Needs.{needs}
 use Rattle.arithmetic.specs.Sums.{difference, borrowOut}

@@ -1,4 +1,4 @@
--- `arithmetic::words::mul` meets its contract.
+-- `arithmetic::words::mul` meets its contract: a product of two bytes is a word.
 use native.Mathlib.Omega.{arith}
 use borrow.Author.Needs.{needs}
 use Rattle.arithmetic.specs.Words.{MUL}

@@ -55,7 +55,7 @@ loop-again c =
     )
 
 sub-t26 : tie.Need-sub-t26 Inv-loop μ-loop
-sub-t26 c = c .before .loop .inv .0
+sub-t26 c = omega (arith, c .before .loop .inv .0)
 
 same-length : tie.Need-same-length Inv-loop μ-loop
 same-length c =

@@ -1,7 +1,0 @@
--- `arithmetic::flags::with_n_z` meets its contract.
-use borrow.Author.Needs.{needs}
-use Rattle.arithmetic.proofs.flags.with_n_z.Statement.{statement}
-use Rattle.arithmetic.proofs.flags.with_n_z.Tie as tie
-
-pub with-n-z-spec : {M : Type 1} → statement M
-with-n-z-spec = tie.close (tie.spec (λ c κs. search needs) (λ c κs. search needs) (λ c. cc))
