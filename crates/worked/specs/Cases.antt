@@ -18,14 +18,15 @@ use Rattle.machine.specs.declared.StepAnswer.the-variants.{Made}
 abbrev pub stackFrom : ℕ → Limits
 stackFrom low = record { grant = record { low = 0x0000; high = 0x00FF }; stack = record { low = low; high = 0x03FF } }
 
-abbrev pub limits : Limits
-limits = stackFrom 0x0300
+abbrev pub usual : Limits
+usual = stackFrom 0x0300
 
--- base 8000
+-- 16 bits each, high byte first
 abbrev pub words : List ℕ → List ℕ
 words [] = []
 words (w ∷ rest) = high w ∷ low w ∷ words rest
 
+-- base 8000
 abbrev pub imageOf : List ℕ → List ℕ → List ℕ
 imageOf lengths code = ascii "SLU" ++ 0x00 ∷ 0x01 ∷ 0x80 ∷ 0x00 ∷ length lengths ∷ (words lengths ++ code)
 
@@ -40,7 +41,7 @@ marks image = replicate (sizeOf image) 0xFFFF
 abbrev pub memory : List ℕ
 memory = replicate 32768 0xFE
 
--- Y is 0000 and SP where starting puts it.
+-- A, X, CC and PC; Y is 0000 and SP where starting puts it
 abbrev pub registers : ℕ → ℕ → ℕ → ℕ → Registers
 registers a x cc pc = record { a = a; x = x; y = 0x0000; cc = cc; sp = 0x03FD; pc = pc }
 
@@ -55,7 +56,7 @@ pub data Outcome : Type 0 where
 
 abbrev pub outcome : Case → Outcome
 outcome (checks image limits v) = verdict (checked image limits (marks image) .0)
-outcome (steps code before after) = step (stepped (routine code) limits before memory)
+outcome (steps code before after) = step (stepped (routine code) usual before memory)
 
 abbrev pub expected : Case → Outcome
 expected (checks image limits v) = verdict v
@@ -70,21 +71,21 @@ twoRoutines = imageOf (3 ∷ 4 ∷ []) (0x88 ∷ 0x84 ∷ 0x81 ∷ 0xCD ∷ 0x80
 abbrev pub cases : List Case
 cases =
     -- 6, start not reached
-    checks (routine (0x81 ∷ 0x9D ∷ [])) limits (Refused 6 1) ∷
+    checks (routine (0x81 ∷ 0x9D ∷ [])) usual (Refused 6 1) ∷
     -- 7, depths disagree
-    checks (routine (0x27 ∷ 0x01 ∷ 0x88 ∷ 0x81 ∷ [])) limits (Refused 7 3) ∷
+    checks (routine (0x27 ∷ 0x01 ∷ 0x88 ∷ 0x81 ∷ [])) usual (Refused 7 3) ∷
     -- 10, jump into an instruction
-    checks (routine (0x27 ∷ 0x01 ∷ 0xA6 ∷ 0x00 ∷ 0x81 ∷ [])) limits (Refused 10 2) ∷
+    checks (routine (0x27 ∷ 0x01 ∷ 0xA6 ∷ 0x00 ∷ 0x81 ∷ [])) usual (Refused 10 2) ∷
     -- 11, depth leaves 0 to 255, or RET above 0
-    checks (routine (0x84 ∷ 0x81 ∷ [])) limits (Refused 11 0) ∷
+    checks (routine (0x84 ∷ 0x81 ∷ [])) usual (Refused 11 0) ∷
     -- 12, store not allowed
-    checks (routine (0xC7 ∷ 0x01 ∷ 0x00 ∷ 0x81 ∷ [])) limits (Refused 12 0) ∷
+    checks (routine (0xC7 ∷ 0x01 ∷ 0x00 ∷ 0x81 ∷ [])) usual (Refused 12 0) ∷
     -- 14, call not to an earlier routine
-    checks (routine (0xCD ∷ 0x80 ∷ 0x00 ∷ 0x81 ∷ [])) limits (Refused 14 0) ∷
+    checks (routine (0xCD ∷ 0x80 ∷ 0x00 ∷ 0x81 ∷ [])) usual (Refused 14 0) ∷
     -- 16, stack area below reported need
     checks (routine (0x81 ∷ [])) (stackFrom 0x03FF) (Refused 16 0) ∷
     -- lengths 3 and 4: need 5, count 5; stack 03FB-03FF accepts, 03FC-03FF gives 16
-    checks twoRoutines limits (Accepted 5 5) ∷
+    checks twoRoutines usual (Accepted 5 5) ∷
     checks twoRoutines (stackFrom 0x03FB) (Accepted 5 5) ∷
     checks twoRoutines (stackFrom 0x03FC) (Refused 16 0) ∷
     -- ADD A,#$94 with A B5: A 49, V 1, H 0, N 0, Z 0, C 1
