@@ -1,0 +1,132 @@
+// Runs the codec at the borders of the gate set, a line a case: instructions to encode, with the number, the length and the five bytes; loose bytes to
+// decode, with the number and the length. A number is 0 where there is an instruction.
+use libc::STDOUT_FILENO;
+use stm8::AluOp;
+use stm8::BitOp;
+use stm8::BitTest;
+use stm8::Decoded;
+use stm8::Instruction;
+use stm8::ModifyOp;
+use stm8::Offset;
+use stm8::Operand;
+use stm8::Register;
+
+fn print_number(label: &[u8], number: u64) {
+    io::write_all(STDOUT_FILENO, label);
+    io::print_decimal(STDOUT_FILENO, number);
+}
+
+fn print_byte(byte: u8) {
+    io::write_all(STDOUT_FILENO, b" ");
+    io::print_hex(STDOUT_FILENO, byte as u64, 2);
+}
+
+fn print_bytes(bytes: [u8; 5]) {
+    print_byte(bytes[0]);
+    print_byte(bytes[1]);
+    print_byte(bytes[2]);
+    print_byte(bytes[3]);
+    print_byte(bytes[4]);
+}
+
+fn encode(label: &[u8], i: Instruction) {
+    let encoded = encoder::encode(i);
+    let bytes = encoded.bytes;
+    io::write_all(STDOUT_FILENO, label);
+    print_number(b": ", encoded.number as u64);
+    print_number(b", length ", encoded.length as u64);
+    io::write_all(STDOUT_FILENO, b",");
+    print_bytes(bytes);
+    io::write_all(STDOUT_FILENO, b"\n");
+}
+
+fn print_decoded(d: Decoded) {
+    match d {
+        Decoded::Found(_, n) => print_number(b"0, length ", n as u64),
+        Decoded::Outside => print_number(b"", 8),
+        Decoded::Truncated => print_number(b"", 9),
+    }
+}
+
+fn decode(label: &[u8], bytes: &[u8]) {
+    io::write_all(STDOUT_FILENO, label);
+    io::write_all(STDOUT_FILENO, b": ");
+    print_decoded(decoder::decode(bytes));
+    io::write_all(STDOUT_FILENO, b"\n");
+}
+
+fn bit_positions() {
+    encode(b"BSET of bit 8", Instruction::Bit(BitOp::Bset, 8, 0x0010));
+    encode(b"BSET of bit 7", Instruction::Bit(BitOp::Bset, 7, 0x0010));
+    encode(
+        b"BCCM of bit 255",
+        Instruction::Bit(BitOp::Bccm, 255, 0x0010),
+    );
+    encode(
+        b"BTJF of bit 8",
+        Instruction::BitJump(BitTest::Btjf, 8, 0x0010, 0xFB),
+    );
+    encode(
+        b"BTJF of bit 0",
+        Instruction::BitJump(BitTest::Btjf, 0, 0x0010, 0xFB),
+    );
+}
+
+fn forms() {
+    encode(b"LD A,A", Instruction::Alu(AluOp::Ld, Operand::Accumulator));
+    encode(
+        b"LD A,#word",
+        Instruction::Alu(AluOp::Ld, Operand::ImmediateWord(0x1234)),
+    );
+    encode(
+        b"LD (X),A",
+        Instruction::Store(Operand::Indexed(Register::X, Offset::Zero)),
+    );
+    encode(
+        b"INC #byte",
+        Instruction::Modify(ModifyOp::Inc, Operand::Immediate(1)),
+    );
+    encode(
+        b"INC (shortoff,SP)",
+        Instruction::Modify(ModifyOp::Inc, Operand::Sp(1)),
+    );
+    encode(
+        b"LDW X,shortmem",
+        Instruction::LoadWord(Register::X, Operand::Short(0x10)),
+    );
+    encode(
+        b"MOV A,#byte",
+        Instruction::Mov(Operand::Accumulator, Operand::Immediate(1)),
+    );
+    encode(b"PUSH shortmem", Instruction::Push(Operand::Short(0x10)));
+    encode(b"POP shortmem", Instruction::Pop(Operand::Short(0x10)));
+}
+
+fn too_few_bytes() {
+    decode(b"nothing", b"");
+    decode(b"72", b"\x72");
+    decode(b"90", b"\x90");
+    decode(b"A6", b"\xA6");
+    decode(b"C7 01", b"\xC7\x01");
+    decode(b"72 01 00 10", b"\x72\x01\x00\x10");
+    decode(b"72 01 00 10 FB", b"\x72\x01\x00\x10\xFB");
+    decode(b"A6 05 81", b"\xA6\x05\x81");
+}
+
+fn outside_the_set() {
+    decode(b"8E", b"\x8E");
+    decode(b"72 72", b"\x72\x72");
+    decode(b"72 90", b"\x72\x90");
+    decode(b"90 72", b"\x90\x72");
+    decode(b"90 20", b"\x90\x20");
+    decode(b"91", b"\x91");
+    decode(b"92", b"\x92");
+    decode(b"72 BB", b"\x72\xBB");
+}
+
+fn main() {
+    bit_positions();
+    forms();
+    too_few_bytes();
+    outside_the_set();
+}

@@ -1,0 +1,41 @@
+-- Every case of the table holds, by computation.
+use mathlib.Core.Path.{_≡_, refl}
+use mathlib.Core.Bool.{xor}
+use mathlib.Core.List.{map}
+use Rattle.numbers.specs.Bits as Bits
+use Rattle.numbers.specs.Checks as Checks
+use Rattle.numbers.specs.Folds as Folds
+use Rattle.numbers.specs.Lists as Lists
+use Rattle.numbers.specs.Words as Words
+use Rattle.arithmetic.specs.Bits as CC
+use Rattle.arithmetic.specs.Flags as Flags
+use Rattle.arithmetic.specs.Sums as Sums
+use Rattle.arithmetic.specs.Accumulator as Accumulator
+use Rattle.arithmetic.specs.Modify as Modify
+use Rattle.arithmetic.specs.Words as WordResults
+use Rattle.stm8.specs.Decoding.{decoded}
+use Rattle.stm8.specs.Effects.{relative}
+use Rattle.image.specs.Image as Image
+use Rattle.image.specs.Validation as Validation
+use Rattle.image.specs.Access.{granted}
+use Rattle.checker.specs.Depth as Depth
+use Rattle.checker.specs.Sweep as Sweep
+use Rattle.checker.specs.Check as Check
+use Rattle.machine.specs.Reading as Reading
+use Rattle.machine.specs.Computing as Computing
+use Rattle.machine.specs.Step as Step
+use Rattle.worked.specs.Cases.{outcome, expected, cases}
+
+pub all-hold : map outcome cases ≡ map expected cases
+unfolding xor Bits.bit Checks.first Checks.both Checks.under Checks.unless Checks.differ Folds.firstIn Folds.total Lists.same Words.word Words.high
+    Words.low Words.wordAt CC.withBit Flags.withNZ Sums.sum Sums.carryOut Sums.borrowOut Sums.difference Sums.sumOverflow Sums.afterSum
+    Accumulator.added Accumulator.loaded Modify.NEG WordResults.MUL decoded relative granted Image.versionOf Image.baseOf Image.countOf
+    Image.lengthsOf Image.lengthAt Image.codeAt Image.codeOf Image.sizeOf Image.layoutOf Image.startOf Image.endOf Image.mainOf
+    Validation.areaCheck Validation.apartCheck Validation.limitsCheck Validation.markCheck Validation.versionCheck Validation.lengthCheck
+    Validation.lengthsCheck Validation.layoutCheck Validation.refusal Validation.validated Depth.popped Depth.pushed Depth.after
+    Sweep.reachCheck Sweep.agreeCheck Sweep.insideCheck Sweep.depthCheck Sweep.storeCheck Sweep.jumpCheck Sweep.beginning Sweep.callee
+    Sweep.callCheck Sweep.flowCheck Sweep.offEndCheck Sweep.instructionCheck Sweep.moved Sweep.decodedAt Sweep.bytesAt Sweep.startAt
+    Sweep.startsFrom Sweep.routineSwept Sweep.routinesFrom Check.swept Check.reportedNeed Check.verdict Check.codeChecked Check.checked
+    Reading.readByte Computing.computed Step.spTrap Step.pcTrap Step.moveTrap Step.storeTrap Step.callTrap Step.effectTrap Step.pcAfter
+    Step.memoryAfter Step.made Step.decodedStep Step.stepValid Step.stepRefusal Step.stepped
+all-hold = refl

@@ -1,0 +1,106 @@
+-- The cases that document 01 marks with ●, in its order: one table. What it expects is held against the definitions that the contracts of
+-- `check` and `step` cite.
+use Prim.Native.Nat.{ℕ}
+use mathlib.Core.List.{List, [], _∷_, _++_}
+use lib.ListN.{length, replicate}
+use Rattle.numbers.specs.Ascii.{ascii}
+use Rattle.numbers.specs.Words.{high, low}
+use Rattle.image.specs.Image.{sizeOf}
+use Rattle.image.specs.declared.Limits.{Limits}
+use Rattle.checker.specs.Check.{checked}
+use Rattle.checker.specs.declared.Verdict.{Verdict}
+use Rattle.checker.specs.declared.Verdict.the-variants.{Accepted, Refused}
+use Rattle.machine.specs.Step.{Result, result, stepped}
+use Rattle.machine.specs.declared.Registers.{Registers}
+use Rattle.machine.specs.declared.StepAnswer.the-variants.{Made}
+
+-- Examples use grant 0000-00FF, stack 0300-03FF,
+abbrev pub stackFrom : ℕ → Limits
+stackFrom low = record { grant = record { low = 0x0000; high = 0x00FF }; stack = record { low = low; high = 0x03FF } }
+
+abbrev pub usual : Limits
+usual = stackFrom 0x0300
+
+-- 16 bits each, high byte first
+abbrev pub words : List ℕ → List ℕ
+words [] = []
+words (w ∷ rest) = high w ∷ low w ∷ words rest
+
+-- base 8000
+abbrev pub imageOf : List ℕ → List ℕ → List ℕ
+imageOf lengths code = ascii "SLU" ++ 0x00 ∷ 0x01 ∷ 0x80 ∷ 0x00 ∷ length lengths ∷ (words lengths ++ code)
+
+-- and one routine.
+abbrev pub routine : List ℕ → List ℕ
+routine code = imageOf (length code ∷ []) code
+
+-- Marks hold FFFF before, one for each code byte. Memory is FE throughout: bit 0 of 0010 is clear, and a read past FFFF that was cut to 16 bits shows.
+abbrev pub marks : List ℕ → List ℕ
+marks image = replicate (sizeOf image) 0xFFFF
+
+abbrev pub memory : List ℕ
+memory = replicate 32768 0xFE
+
+-- A, X, CC and PC; Y is 0000 and SP where starting puts it
+abbrev pub registers : ℕ → ℕ → ℕ → ℕ → Registers
+registers a x cc pc = record { a = a; x = x; y = 0x0000; cc = cc; sp = 0x03FD; pc = pc }
+
+-- a case of the check: an image, limits and the verdict; or of the step: a routine's code, and the registers before and after it
+pub data Case : Type 0 where
+  checks : List ℕ → Limits → Verdict → Case
+  steps : List ℕ → Registers → Registers → Case
+
+pub data Outcome : Type 0 where
+  verdict : Verdict → Outcome
+  step : Result → Outcome
+
+abbrev pub outcome : Case → Outcome
+outcome (checks image limits v) = verdict (checked image limits (marks image) .0)
+outcome (steps code before after) = step (stepped (routine code) usual before memory)
+
+abbrev pub expected : Case → Outcome
+expected (checks image limits v) = verdict v
+expected (steps code before after) = step (result Made after memory)
+
+-- lengths 3 and 4
+abbrev pub twoRoutines : List ℕ
+twoRoutines = imageOf (3 ∷ 4 ∷ []) (0x88 ∷ 0x84 ∷ 0x81 ∷ 0xCD ∷ 0x80 ∷ 0x00 ∷ 0x81 ∷ [])
+
+-- CC reads V, the unused bit 6, I1, H, I0, N, Z, C. Each step is made from CC all 0 and all 1: what it does not set shows in the one, what it does
+-- not clear in the other.
+abbrev pub cases : List Case
+cases =
+    -- 6, start not reached
+    checks (routine (0x81 ∷ 0x9D ∷ [])) usual (Refused 6 1) ∷
+    -- 7, depths disagree
+    checks (routine (0x27 ∷ 0x01 ∷ 0x88 ∷ 0x81 ∷ [])) usual (Refused 7 3) ∷
+    -- 10, jump into an instruction
+    checks (routine (0x27 ∷ 0x01 ∷ 0xA6 ∷ 0x00 ∷ 0x81 ∷ [])) usual (Refused 10 2) ∷
+    -- 11, depth leaves 0 to 255, or RET above 0
+    checks (routine (0x84 ∷ 0x81 ∷ [])) usual (Refused 11 0) ∷
+    -- 12, store not allowed
+    checks (routine (0xC7 ∷ 0x01 ∷ 0x00 ∷ 0x81 ∷ [])) usual (Refused 12 0) ∷
+    -- 14, call not to an earlier routine
+    checks (routine (0xCD ∷ 0x80 ∷ 0x00 ∷ 0x81 ∷ [])) usual (Refused 14 0) ∷
+    -- 16, stack area below reported need
+    checks (routine (0x81 ∷ [])) (stackFrom 0x03FF) (Refused 16 0) ∷
+    -- lengths 3 and 4: need 5, count 5; stack 03FB-03FF accepts, 03FC-03FF gives 16
+    checks twoRoutines usual (Accepted 5 5) ∷
+    checks twoRoutines (stackFrom 0x03FB) (Accepted 5 5) ∷
+    checks twoRoutines (stackFrom 0x03FC) (Refused 16 0) ∷
+    -- ADD A,#$94 with A B5: A 49, V 1, H 0, N 0, Z 0, C 1
+    steps (0xAB ∷ 0x94 ∷ []) (registers 0xB5 0x0000 0b0000_0000 0x8000) (registers 0x49 0x0000 0b1000_0001 0x8002) ∷
+    steps (0xAB ∷ 0x94 ∷ []) (registers 0xB5 0x0000 0b1111_1111 0x8000) (registers 0x49 0x0000 0b1110_1001 0x8002) ∷
+    -- NEG A with 80: 80, V 1, N 1, C 1
+    steps (0x40 ∷ []) (registers 0x80 0x0000 0b0000_0000 0x8000) (registers 0x80 0x0000 0b1000_0101 0x8001) ∷
+    steps (0x40 ∷ []) (registers 0x80 0x0000 0b1111_1111 0x8000) (registers 0x80 0x0000 0b1111_1101 0x8001) ∷
+    -- MUL X,A with X 12FF, A FF: X FE01, H 0, C 0
+    steps (0x42 ∷ []) (registers 0xFF 0x12FF 0b0000_0000 0x8000) (registers 0xFF 0xFE01 0b0000_0000 0x8001) ∷
+    steps (0x42 ∷ []) (registers 0xFF 0x12FF 0b1111_1111 0x8000) (registers 0xFF 0xFE01 0b1110_1110 0x8001) ∷
+    -- 72 01 00 10 FB at 8000, bit 0 of 0010 clear: PC 8000, C 0
+    steps (0x72 ∷ 0x01 ∷ 0x00 ∷ 0x10 ∷ 0xFB ∷ []) (registers 0x00 0x0000 0b0000_0000 0x8000) (registers 0x00 0x0000 0b0000_0000 0x8000) ∷
+    steps (0x72 ∷ 0x01 ∷ 0x00 ∷ 0x10 ∷ 0xFB ∷ []) (registers 0x00 0x0000 0b1111_1111 0x8000) (registers 0x00 0x0000 0b1111_1110 0x8000) ∷
+    -- E6 20 with X FFF0: A 00, Z 1
+    steps (0xE6 ∷ 0x20 ∷ []) (registers 0xAA 0xFFF0 0b0000_0000 0x8000) (registers 0x00 0xFFF0 0b0000_0010 0x8002) ∷
+    steps (0xE6 ∷ 0x20 ∷ []) (registers 0xAA 0xFFF0 0b1111_1111 0x8000) (registers 0x00 0xFFF0 0b1111_1011 0x8002) ∷
+    []

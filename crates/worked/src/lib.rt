@@ -1,0 +1,1 @@
+// The worked cases of document 01: a table and its proof, no code.
