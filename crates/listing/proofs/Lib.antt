@@ -1,0 +1,3 @@
+pub mod Appending
+pub mod Sizes
+pub mod Placing
