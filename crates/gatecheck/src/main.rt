@@ -1,4 +1,6 @@
 // The verdict program: reads limits and an image from standard input, checks the image, and prints the verdict and a line for each start.
+ghost use lib.ListN.{length};
+ghost use Rattle.gatecheck.specs.Reading.{Within};
 use disassembly::Written;
 use libc::STDIN_FILENO;
 use libc::STDOUT_FILENO;
@@ -14,18 +16,31 @@ enum Input {
     Failed,
 }
 
+// One read: how many bytes came, none at the input's end.
+fn read_some(buffer: &mut [u8]) -> Input
+    ensures { λ r. ⌜ Within r (length (now (buffer .entry))) ⌝ }
+{
+    let got = libc::read(STDIN_FILENO, buffer);
+    if got < 0 {
+        return Input::Failed;
+    }
+    Input::Bytes(io::count(got, buffer))
+}
+
 // Reads until the input ends or the buffer is full, however the bytes arrive.
-fn read_input(buffer: &mut [u8]) -> Input {
+fn read_input(buffer: &mut [u8]) -> Input
+    ensures { λ r. ⌜ Within r (length (now (buffer .entry))) ⌝ }
+{
     let mut n = 0;
     while n < buffer.len() {
-        let got = libc::read(STDIN_FILENO, &mut buffer[n..]);
-        if got < 0 {
+        let more = read_some(&mut buffer[n..]);
+        let Input::Bytes(count) = more else {
             return Input::Failed;
-        }
-        if got == 0 {
+        };
+        if count == 0 {
             return Input::Bytes(n);
         }
-        n += got as usize;
+        n += count;
     }
     Input::Bytes(n)
 }

@@ -1,3 +1,5 @@
 pub mod Appending
-pub mod Sizes
+pub mod Digits
+pub mod LongInput
 pub mod Placing
+pub mod Sizes

@@ -5,7 +5,9 @@ use mathlib.Core.List.{List, [], _∷_, _++_, append-nil, flatMap}
 use native.Mathlib.Nat.{zero-add, le-trans}
 use native.Mathlib.Omega.{arith}
 use borrow.Author.Tests.{lt-ltb, le-ltb, ne-eqb}
-use lib.ListN.{length, getD, take, drop}
+use lib.Dec.{ltb}
+use lib.ListN.{length, getD, take, drop, length-append}
+use Rattle.numbers.proofs.Checking.{by-cond}
 use lib.Seq.{sets-eq, drop-drop}
 use Rattle.stm8.specs.Decoding.{decoded}
 use Rattle.stm8.specs.declared.Decoded.{Decoded}
@@ -69,6 +71,25 @@ line-start image marks layout offset mark d laid is some e =
     let code : layout .code ≡ codeAt image = ap (λ (l : Layout). l .code) (laid .is) in
     let base : layout .base ≡ baseOf image = ap (λ (l : Layout). l .base) (laid .is) in
     rw (← is, ne-eqb mark 0 some, e, part-all from image, base, code, drop-drop)
+
+-- what was written lies within the buffer
+pub listed-within : (image marks buffer : List ℕ) (outcome : Verdict × List ℕ) (n : ℕ) (marks′ buffer′ : List ℕ) →
+    (Bytes n, marks′, buffer′) ≡ listed image marks buffer outcome → n ≤ length buffer′
+unfolding listed
+listed-within image marks buffer outcome n marks′ buffer′ e =
+    let lines = listing image outcome in
+    by-cond (ltb (length buffer) longest) {x = (TooShort, marks, buffer)} {y = (Bytes (length lines), outcome .1, lines ++ drop (length lines) buffer)}
+    (λ t p.
+    let w : TooShort ≡ Bytes n = ap (λ (x : Written × List ℕ × List ℕ). x .0) p in
+    let z : _≡_ {A = ℕ} 0 1 = cc in
+    let never : ⊥ = omega arith in
+    absurd never)
+    (λ t p.
+    let w : Bytes (length lines) ≡ Bytes n = ap (λ (x : Written × List ℕ × List ℕ). x .0) p in
+    let size : length lines ≡ n = cc in
+    let holds : lines ++ drop (length lines) buffer ≡ buffer′ = ap (λ (x : Written × List ℕ × List ℕ). x .2) p in
+    rw (← holds, length-append) (omega arith))
+    (sym e)
 
 -- the parts of a listing
 module _ (image marks : List ℕ) (outcome : Verdict × List ℕ) where
