@@ -1,0 +1,5 @@
+pub mod Appending
+pub mod Digits
+pub mod LongInput
+pub mod Placing
+pub mod Sizes

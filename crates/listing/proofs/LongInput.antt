@@ -1,0 +1,127 @@
+-- An input that is longer than any that is not refused prints what its first 4,177 bytes print: whoever reads no further loses nothing.
+use Prim.Native.Nat.{ℕ, zero, suc, _+_, _≤_}
+use mathlib.Core.Path.{_≡_, refl, sym, ap, _∙_}
+use mathlib.Core.Bool.{Bool, true, false, cond}
+use mathlib.Core.List.{List, [], _∷_, map}
+use native.Mathlib.Nat.{zero-add, suc-add}
+use native.Mathlib.Omega.{arith}
+use borrow.Author.Tests.{ne-eqb}
+use lib.Dec.{eqb, ltb}
+use lib.ListN.{length, getD, take, drop, length-drop}
+use lib.Seq.{length-take-le, take-take, take-nil, getD-take}
+use Rattle.numbers.specs.Checks.{first, under, differ}
+use Rattle.numbers.specs.Folds.{firstIn}
+use Rattle.numbers.specs.Words.{wordAt}
+use Rattle.numbers.proofs.Checking.{under-zero, under-pass, differ-zero}
+use Rattle.numbers.proofs.Folding.{passed}
+use Rattle.image.specs.Image.{versionOf, baseOf, countOf, lengthsOf, codeAt, sizeOf, limitsOf}
+use Rattle.image.specs.Validation.{limitsCheck, markCheck, versionCheck, lengthCheck, lengthsCheck, layoutCheck, refusal, validated}
+use Rattle.image.specs.declared.Limits.{Limits}
+use Rattle.image.specs.declared.Validated.the-variants as Validated
+use Rattle.checker.specs.declared.Verdict.the-variants.{Refused}
+use Rattle.listing.specs.Listing.{verdictLine, listing, imageIn, checkedInput}
+use Rattle.listing.proofs.Placing.{refused-listing, checked-refused, input-whole}
+
+-- a check that gives 0 or k
+data Gives (k : ℕ) : ℕ → Type 0 where
+  pass : Gives k 0
+  fail : Gives k k
+
+by-test : {k : ℕ} (t : Bool) {a b : ℕ} → Gives k a → Gives k b → Gives k (cond t a b)
+by-test true x y = x
+by-test false x y = y
+
+under-gives : (a b k : ℕ) → Gives k (under a b k)
+unfolding under
+under-gives a b k = by-test (ltb a b) fail pass
+
+differ-gives : (a b k : ℕ) → Gives k (differ a b k)
+unfolding differ
+differ-gives a b k = by-test (eqb a b) pass fail
+
+infixr 5 _next_
+_next_ : {k a b : ℕ} → Gives k a → Gives k b → Gives k (first a b)
+unfolding first
+_next_ {k} {a} x y = by-test (eqb a 0) y x
+
+lengths-give : (lengths : List ℕ) → Gives 4 (firstIn (map lengthCheck lengths))
+unfolding firstIn lengthCheck
+lengths-give [] = pass
+lengths-give (n ∷ lengths) = under-gives n 1 4 next lengths-give lengths
+
+layout-gives : (image : List ℕ) → Gives 4 (layoutCheck image)
+unfolding layoutCheck lengthsCheck firstIn
+layout-gives image =
+    under-gives (countOf image) 1 4 next under-gives 32 (countOf image) 4 next lengths-give (lengthsOf image) next under-gives 4096 (sizeOf image) 4 next
+    under-gives (baseOf image) 0x8000 4 next under-gives 0x10000 (baseOf image + sizeOf image) 4 next
+    differ-gives (length image) (codeAt image + sizeOf image) 4 next pass
+
+-- an image with a good layout has at most 8 + 2 * 32 + 4,096 bytes
+layout-short : (image : List ℕ) → layoutCheck image ≡ 0 → length image ≤ 4168
+unfolding layoutCheck codeAt
+layout-short image e =
+    let p = passed _ e in
+    let q = p .1 .1 .1 in
+    omega (arith, under-zero _ _ 3 (p .1 .0), under-zero _ _ 3 (q .0), differ-zero _ _ 3 (q .1 .1 .1 .0))
+
+layout-long : (image : List ℕ) → 4169 ≤ length image → layoutCheck image ≡ 4
+layout-long image h = go (layout-gives image) refl
+  where
+    go : {n : ℕ} → Gives 4 n → layoutCheck image ≡ n → layoutCheck image ≡ 4
+    go pass e = let z : ⊥ = omega (arith, layout-short image e) in absurd z
+    go fail e = e
+
+-- so a longer one is refused, by 4 at the last
+longRefusal : List ℕ → Limits → ℕ
+longRefusal image limits = firstIn (limitsCheck limits ∷ markCheck image ∷ versionCheck image ∷ 4 ∷ [])
+
+long-refused : (image : List ℕ) (limits : Limits) → 4169 ≤ length image → validated image limits ≡ Validated.Refused (longRefusal image limits)
+unfolding validated refusal longRefusal
+long-refused image limits h =
+    let some : longRefusal image limits ≡ 0 → ⊥ = λ e. omega (arith, passed _ e .1 .1 .1 .0) in
+    rw (layout-long image h, ne-eqb (longRefusal image limits) 0 some)
+
+-- whose number the first bytes decide
+mark-front : (image : List ℕ) → 4169 ≤ length image → markCheck (take 4169 image) ≡ markCheck image
+unfolding markCheck
+mark-front image h =
+    let whole : 8 ≤ length image = omega arith in
+    let front : 8 ≤ length (take 4169 image) = omega (arith, length-take-le 4169 image h) in
+    rw (under-pass (length (take 4169 image)) 8 2 front, under-pass (length image) 8 2 whole, take-take 3 4169 image (omega arith))
+
+version-front : (image : List ℕ) → versionCheck (take 4169 image) ≡ versionCheck image
+unfolding versionCheck versionOf wordAt
+version-front image = rw (getD-take 4169 image 3 0 (omega arith), getD-take 4169 image 4 0 (omega arith))
+
+refusal-front : (image : List ℕ) (limits : Limits) → 4169 ≤ length image → longRefusal (take 4169 image) limits ≡ longRefusal image limits
+unfolding longRefusal
+refusal-front image limits h = rw (mark-front image h, version-front image)
+
+limits-front : (input : List ℕ) → limitsOf (take 4177 input) ≡ limitsOf input
+unfolding limitsOf wordAt
+limits-front input =
+    rw (getD-take 4177 input 0 0 (omega arith), getD-take 4177 input 1 0 (omega arith), getD-take 4177 input 2 0 (omega arith),
+    getD-take 4177 input 3 0 (omega arith), getD-take 4177 input 4 0 (omega arith), getD-take 4177 input 5 0 (omega arith),
+    getD-take 4177 input 6 0 (omega arith), getD-take 4177 input 7 0 (omega arith))
+
+drop-take : (n m : ℕ) (l : List ℕ) → drop n (take (n + m) l) ≡ take m (drop n l)
+drop-take zero m l = rw (zero-add m)
+drop-take (suc n) m [] = rw (suc-add n m) (sym (take-nil m))
+drop-take (suc n) m (x ∷ l) = rw (suc-add n m) (drop-take n m l)
+
+input-refused : (input marks : List ℕ) → 4177 ≤ length input →
+    listing (imageIn input) (checkedInput input marks) ≡ verdictLine (Refused (longRefusal (imageIn input) (limitsOf input)) 0)
+input-refused input marks h =
+    let whole : 8 ≤ length input = omega arith in
+    let long : 4169 ≤ length (imageIn input) = rw (length-drop 8 input) (omega arith) in
+    let refused = checked-refused (imageIn input) (limitsOf input) marks _ (long-refused (imageIn input) (limitsOf input) long) in
+    sym (refused-listing (imageIn input) marks (checkedInput input marks) _ (input-whole input marks whole ∙ refused) refl)
+
+pub long-input : (input marks : List ℕ) → 4177 ≤ length input →
+    listing (imageIn (take 4177 input)) (checkedInput (take 4177 input) marks) ≡ listing (imageIn input) (checkedInput input marks)
+long-input input marks h =
+    let front : 4177 ≤ length (take 4177 input) = omega (arith, length-take-le 4177 input h) in
+    let long : 4169 ≤ length (imageIn input) = rw (length-drop 8 input) (omega arith) in
+    let same : longRefusal (imageIn (take 4177 input)) (limitsOf (take 4177 input)) ≡ longRefusal (imageIn input) (limitsOf input) =
+    rw (limits-front input, drop-take 8 4169 input) (refusal-front (imageIn input) (limitsOf input) long) in
+    input-refused (take 4177 input) marks front ∙ ap (λ n. verdictLine (Refused n 0)) same ∙ sym (input-refused input marks h)
