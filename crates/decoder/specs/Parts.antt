@@ -3,7 +3,7 @@ use Prim.Native.Nat.{ℕ, _+_, _*_, _%_}
 use mathlib.Core.List.{List, [], _∷_}
 use lib.ListN.{getD}
 use Rattle.stm8.specs.OpcodeMap.{Page, Entry, Blank, Is, entry}
-use Rattle.stm8.specs.Decoding.{precodes, decodedIn}
+use Rattle.stm8.specs.Decoding.{precodes, foundAs, decodedIn}
 use Rattle.stm8.specs.declared.Instruction.{Instruction}
 use Rattle.stm8.specs.declared.Decoded.{Decoded}
 
@@ -28,6 +28,10 @@ presence (Is i) = 1
 abbrev pub columns : List Entry → ℕ
 columns [] = 0
 columns (e ∷ row) = presence e + 2 * columns row
+
+-- an op-code of the given length on a page, with the bytes after it
+unfoldable pub decodedAs : Page → ℕ → ℕ → ℕ → ℕ → ℕ → ℕ → Decoded
+decodedAs page op size a b c d = foundAs size (entry page op a b c d)
 
 -- the bytes on a page, by its table of lengths
 unfoldable pub byTable : Page → List ℕ → List ℕ → Decoded

@@ -10,7 +10,7 @@ use stm8::AluOp;
 use stm8::Condition;
 use stm8::ModifyOp;
 
-// The operation on A.
+// The operation on A, in the column that an indexed row has it in.
 pub fn alu_of(op: u8) -> AluOp
     ensures { λ r. ⌜ ((x : Operand) → Alu r x ≡ inRow (indexedRow x) op (Alu r x)) ⌝ }
 {
@@ -36,7 +36,7 @@ pub fn alu_of(op: u8) -> AluOp
     }
 }
 
-// The operation that reads, modifies and writes.
+// The operation that reads, modifies and writes its operand.
 pub fn modify_of(op: u8) -> ModifyOp
     ensures { λ r. ⌜ ((x : Operand) → Modify r x ≡ inRow (modifyRow x Blank Blank Blank) op (Modify r x)) ⌝ }
 {

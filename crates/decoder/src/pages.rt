@@ -2,7 +2,7 @@
 ghost use mathlib.Core.Path.{_≡_};
 ghost use lib.ListN.{getD};
 ghost use Rattle.stm8.specs.OpcodeMap.{Plain, After72, After90};
-ghost use Rattle.decoder.specs.Parts.{onPage, byTable};
+ghost use Rattle.decoder.specs.Parts.{onPage, decodedAs, byTable};
 use crate::columns::after_72_columns;
 use crate::columns::after_90_columns;
 use crate::columns::has_column;
@@ -98,6 +98,37 @@ fn after_90_instruction(op: u8, a: u8, b: u8) -> Instruction
     }
 }
 
+// An op-code of the given length, with the bytes after it: its instruction, if the op-code is in the set.
+fn plain_entry(op: u8, size: usize, a: u8, b: u8, c: u8, d: u8) -> Decoded
+    ensures { λ r. ⌜ r ≡ decodedAs Plain op size a b c d ⌝ }
+{
+    if has_column(plain_columns(op), op) {
+        Decoded::Found(plain_instruction(op, a, b, c, d), size)
+    } else {
+        Decoded::Outside
+    }
+}
+
+fn after_72_entry(op: u8, size: usize, a: u8, b: u8, c: u8) -> Decoded
+    ensures { λ r. ⌜ r ≡ decodedAs After72 op size a b c 0 ⌝ }
+{
+    if has_column(after_72_columns(op), op) {
+        Decoded::Found(after_72_instruction(op, a, b, c), size)
+    } else {
+        Decoded::Outside
+    }
+}
+
+fn after_90_entry(op: u8, size: usize, a: u8, b: u8) -> Decoded
+    ensures { λ r. ⌜ r ≡ decodedAs After90 op size a b 0 0 ⌝ }
+{
+    if has_column(after_90_columns(op), op) {
+        Decoded::Found(after_90_instruction(op, a, b), size)
+    } else {
+        Decoded::Outside
+    }
+}
+
 fn wide(length: u8) -> usize
     ensures { λ r. ⌜ r ≡ length ⌝ }
 {
@@ -126,20 +157,14 @@ pub fn plain(bytes: &[u8], lengths: &[u8; 256]) -> Decoded
     if bytes.len() < size {
         return Decoded::Truncated;
     }
-    if has_column(plain_columns(op), op) {
-        Decoded::Found(
-            plain_instruction(
-                op,
-                byte_at(bytes, 1),
-                byte_at(bytes, 2),
-                byte_at(bytes, 3),
-                byte_at(bytes, 4),
-            ),
-            size,
-        )
-    } else {
-        Decoded::Outside
-    }
+    plain_entry(
+        op,
+        size,
+        byte_at(bytes, 1),
+        byte_at(bytes, 2),
+        byte_at(bytes, 3),
+        byte_at(bytes, 4),
+    )
 }
 
 // The same on the page after 72.
@@ -157,14 +182,13 @@ pub fn after_72(bytes: &[u8], lengths: &[u8; 256]) -> Decoded
     if bytes.len() < size {
         return Decoded::Truncated;
     }
-    if has_column(after_72_columns(op), op) {
-        Decoded::Found(
-            after_72_instruction(op, byte_at(bytes, 2), byte_at(bytes, 3), byte_at(bytes, 4)),
-            size,
-        )
-    } else {
-        Decoded::Outside
-    }
+    after_72_entry(
+        op,
+        size,
+        byte_at(bytes, 2),
+        byte_at(bytes, 3),
+        byte_at(bytes, 4),
+    )
 }
 
 // The same on the page after 90.
@@ -182,12 +206,5 @@ pub fn after_90(bytes: &[u8], lengths: &[u8; 256]) -> Decoded
     if bytes.len() < size {
         return Decoded::Truncated;
     }
-    if has_column(after_90_columns(op), op) {
-        Decoded::Found(
-            after_90_instruction(op, byte_at(bytes, 2), byte_at(bytes, 3)),
-            size,
-        )
-    } else {
-        Decoded::Outside
-    }
+    after_90_entry(op, size, byte_at(bytes, 2), byte_at(bytes, 3))
 }

@@ -1,4 +1,5 @@
-// Rows after 72 and after 90 that have no like without pre-code, each asked only for the columns that it has. ab is the word after the op-code.
+// Rows after 72 and after 90 that have no like without pre-code, each asked only for the columns that it has. ab is the word after the
+// op-code.
 ghost use mathlib.Core.Path.{_≡_};
 ghost use Prim.Native.Nat.{ℕ};
 ghost use Rattle.stm8.specs.OpcodeMap.{Blank, one, two, modifyRow, bitRow};

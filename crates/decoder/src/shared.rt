@@ -1,4 +1,4 @@
-// Rows that stand without pre-code for X and after 90 for Y.
+// Rows that stand without pre-code for X and after 90 for Y, each asked only for the columns that it has.
 ghost use mathlib.Core.Path.{_≡_};
 ghost use Rattle.stm8.specs.OpcodeMap.{Blank, indexedRow, registerRow5, registerRow8, registerRow9};
 ghost use Rattle.stm8.specs.declared.Operand.the-variants.{Indexed};

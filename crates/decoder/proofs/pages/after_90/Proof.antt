@@ -1,16 +1,14 @@
 -- `decoder::pages::after_90` meets its contract.
-use mathlib.Core.Path.{sym, _∙_}
 use denote.Ref.{now}
 use borrow.Author.Tests.{le-leb}
-use lib.ListN.{getD}
 use Rattle.stm8.specs.OpcodeMap.{After90}
-use Rattle.decoder.specs.Parts.{onPage, byTable}
-use Rattle.decoder.proofs.Sizes.{outside, cut-short, found, blank}
+use Rattle.decoder.specs.Parts.{decodedAs, byTable}
+use Rattle.decoder.proofs.Sizes.{outside, cut-short, whole}
 use Rattle.decoder.proofs.pages.after_90.Statement.{statement}
 use Rattle.decoder.proofs.pages.after_90.Tie as tie
 
 pub after-90-spec : {M : Type 1} → statement M
-unfolding onPage byTable
+unfolding decodedAs byTable
 after-90-spec =
     tie.close
     (tie.spec
@@ -22,7 +20,5 @@ after-90-spec =
     (λ c κs. tt)
     (λ c κs. tt)
     (λ c κs. tt)
-    (λ c κs. tt)
-    (λ c κs. tt)
-    (λ c. let s = now (c .before .before .before .before .before .before .before .before .before .before .before .before .args .bytes) in found After90 (now (c .before .before .before .before .before .before .before .before .before .before .before .before .args .bytes)) (now (c .before .before .before .before .before .before .before .before .before .before .before .before .args .lengths)) (c .before .before .before .before .before .before .before .before .before .before .if1 .left) (c .before .before .before .before .before .before .before .before .before .byte-at .ensures) (c .before .before .before .before .before .before .before .before .length-of .ensures) (c .before .before .before .before .before .before .before .if2 .left) (c .before .before .before .before .before .before .if3 .left) (c .before .before .before .before .before .after-90-columns .ensures (getD s 2 0) (getD s 3 0)) (sym (c .before .before .before .before .has-column .ensures) ∙ c .before .before .before .if4 .taken) (c .after-90-instruction .result) (rw (c .before .byte-at3 .ensures, c .before .before .byte-at2 .ensures) at (c .after-90-instruction .ensures)))
-    (λ c. let s = now (c .before .before .before .before .before .before .before .before .before .args .bytes) in blank After90 (now (c .before .before .before .before .before .before .before .before .before .args .bytes)) (now (c .before .before .before .before .before .before .before .before .before .args .lengths)) (c .before .before .before .before .before .before .before .if1 .left) (c .before .before .before .before .before .before .byte-at .ensures) (c .before .before .before .before .before .length-of .ensures) (c .before .before .before .before .if2 .left) (c .before .before .before .if3 .left) (c .before .before .after-90-columns .ensures (getD s 2 0) (getD s 3 0)) (sym (c .before .has-column .ensures) ∙ c .if4 .left)))
+    (λ c. rw (c .after-90-entry .ensures, c .before .byte-at3 .ensures, c .before .before .byte-at2 .ensures, c .before .before .before .before .before .before .byte-at .ensures)
+    (whole After90 (now (c .before .before .before .before .before .before .before .before .before .args .bytes)) (now (c .before .before .before .before .before .before .before .before .before .args .lengths)) (c .before .before .before .before .before .before .before .if1 .left) (c .before .before .before .before .before .before .byte-at .ensures) (c .before .before .before .before .before .length-of .ensures) (c .before .before .before .before .if2 .left) (c .before .before .before .if3 .left))))

@@ -1,16 +1,14 @@
 -- `decoder::pages::plain` meets its contract.
-use mathlib.Core.Path.{sym, _∙_}
 use native.Mathlib.Omega.{arith}
 use denote.Ref.{now}
-use lib.ListN.{getD}
 use Rattle.stm8.specs.OpcodeMap.{Plain}
-use Rattle.decoder.specs.Parts.{onPage, byTable}
-use Rattle.decoder.proofs.Sizes.{outside, cut-short, found, blank}
+use Rattle.decoder.specs.Parts.{decodedAs, byTable}
+use Rattle.decoder.proofs.Sizes.{outside, cut-short, whole}
 use Rattle.decoder.proofs.pages.plain.Statement.{statement}
 use Rattle.decoder.proofs.pages.plain.Tie as tie
 
 pub plain-spec : {M : Type 1} → statement M
-unfolding onPage byTable
+unfolding decodedAs byTable
 plain-spec =
     tie.close
     (tie.spec
@@ -24,7 +22,5 @@ plain-spec =
     (λ c κs. tt)
     (λ c κs. tt)
     (λ c κs. tt)
-    (λ c κs. tt)
-    (λ c κs. tt)
-    (λ c. let s = now (c .before .before .before .before .before .before .before .before .before .before .before .before .before .before .args .bytes) in found Plain (now (c .before .before .before .before .before .before .before .before .before .before .before .before .before .before .args .bytes)) (now (c .before .before .before .before .before .before .before .before .before .before .before .before .before .before .args .lengths)) (omega (arith, c .before .before .before .before .before .before .before .before .before .before .before .before .if1 .left)) (c .before .before .before .before .before .before .before .before .before .before .before .byte-at .ensures) (c .before .before .before .before .before .before .before .before .before .before .length-of .ensures) (c .before .before .before .before .before .before .before .before .before .if2 .left) (c .before .before .before .before .before .before .before .before .if3 .left) (c .before .before .before .before .before .before .before .plain-columns .ensures (getD s 1 0) (getD s 2 0) (getD s 3 0) (getD s 4 0)) (sym (c .before .before .before .before .before .before .has-column .ensures) ∙ c .before .before .before .before .before .if4 .taken) (c .plain-instruction .result) (rw (c .before .byte-at5 .ensures, c .before .before .byte-at4 .ensures, c .before .before .before .byte-at3 .ensures, c .before .before .before .before .byte-at2 .ensures) at (c .plain-instruction .ensures)))
-    (λ c. let s = now (c .before .before .before .before .before .before .before .before .before .args .bytes) in blank Plain (now (c .before .before .before .before .before .before .before .before .before .args .bytes)) (now (c .before .before .before .before .before .before .before .before .before .args .lengths)) (omega (arith, c .before .before .before .before .before .before .before .if1 .left)) (c .before .before .before .before .before .before .byte-at .ensures) (c .before .before .before .before .before .length-of .ensures) (c .before .before .before .before .if2 .left) (c .before .before .before .if3 .left) (c .before .before .plain-columns .ensures (getD s 1 0) (getD s 2 0) (getD s 3 0) (getD s 4 0)) (sym (c .before .has-column .ensures) ∙ c .if4 .left)))
+    (λ c. rw (c .plain-entry .ensures, c .before .byte-at5 .ensures, c .before .before .byte-at4 .ensures, c .before .before .before .byte-at3 .ensures, c .before .before .before .before .byte-at2 .ensures, c .before .before .before .before .before .before .before .before .byte-at .ensures)
+    (whole Plain (now (c .before .before .before .before .before .before .before .before .before .before .before .args .bytes)) (now (c .before .before .before .before .before .before .before .before .before .before .before .args .lengths)) (omega (arith, c .before .before .before .before .before .before .before .before .before .if1 .left)) (c .before .before .before .before .before .before .before .before .byte-at .ensures) (c .before .before .before .before .before .before .before .length-of .ensures) (c .before .before .before .before .before .before .if2 .left) (c .before .before .before .before .before .if3 .left))))

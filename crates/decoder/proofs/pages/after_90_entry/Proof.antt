@@ -1,0 +1,21 @@
+-- `decoder::pages::after_90_entry` meets its contract.
+use mathlib.Core.Path.{sym, _∙_}
+use mathlib.Core.List.{[]}
+use Prim.Native.Nat.{_/_}
+use lib.ListN.{getD}
+use Rattle.stm8.specs.OpcodeMap.{after90Page}
+use Rattle.decoder.specs.Parts.{onPage, decodedAs}
+use Rattle.decoder.proofs.InSet.{in-set, not-in-set}
+use Rattle.decoder.proofs.pages.after_90_entry.Statement.{statement}
+use Rattle.decoder.proofs.pages.after_90_entry.Tie as tie
+
+pub after-90-entry-spec : {M : Type 1} → statement M
+unfolding onPage decodedAs
+after-90-entry-spec =
+    tie.close
+    (tie.spec
+    (λ c κs. tt)
+    (λ c κs. tt)
+    (λ c κs. tt)
+    (λ c. let s = c .before .before .before .before .args in in-set (getD (after90Page (s .a) (s .b)) (s .op / 16) []) (s .op) (c .before .before .before .after-90-columns .ensures (s .a) (s .b)) (s .size) (c .after-90-instruction .result) (sym (c .before .before .has-column .ensures) ∙ c .before .if1 .taken) (c .after-90-instruction .ensures))
+    (λ c. let s = c .before .before .before .args in not-in-set (getD (after90Page (s .a) (s .b)) (s .op / 16) []) (s .op) (c .before .before .after-90-columns .ensures (s .a) (s .b)) (s .size) (sym (c .before .has-column .ensures) ∙ c .if1 .left)))
