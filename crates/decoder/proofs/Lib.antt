@@ -1,2 +1,3 @@
-pub mod Defaults
+pub mod Arms
+pub mod InSet
 pub mod Sizes

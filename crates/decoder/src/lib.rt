@@ -2,7 +2,10 @@
 ghost use mathlib.Core.Path.{_≡_};
 ghost use Rattle.stm8.specs.Decoding.{decoded, decodedBy, tables};
 
+mod columns;
+mod operations;
 mod pages;
+mod prefixed;
 mod rows;
 mod shared;
 

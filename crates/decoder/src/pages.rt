@@ -2,114 +2,130 @@
 ghost use mathlib.Core.Path.{_≡_};
 ghost use lib.ListN.{getD};
 ghost use Rattle.stm8.specs.OpcodeMap.{Plain, After72, After90};
-ghost use Rattle.decoder.specs.Parts.{onPage, byTable};
+ghost use Rattle.decoder.specs.Parts.{onPage, decodedAs, byTable};
+use crate::columns::after_72_columns;
+use crate::columns::after_90_columns;
+use crate::columns::has_column;
+use crate::columns::plain_columns;
+use crate::prefixed::bit_jump_row;
+use crate::prefixed::bit_row;
+use crate::prefixed::row_72_5;
+use crate::prefixed::row_72_a;
+use crate::prefixed::row_90_4;
+use crate::prefixed::row_90_a;
+use crate::prefixed::row_90_c;
 use crate::rows::row_1;
 use crate::rows::row_2;
 use crate::rows::row_3;
 use crate::rows::row_4;
 use crate::rows::row_5;
+use crate::rows::row_6;
+use crate::rows::row_7;
 use crate::rows::row_8;
 use crate::rows::row_9;
 use crate::rows::row_a;
 use crate::rows::row_b;
 use crate::rows::row_c;
-use crate::shared::alu_row;
-use crate::shared::bit_jump_row;
-use crate::shared::bit_row;
-use crate::shared::modify_row;
-use crate::shared::one_entry;
+use crate::shared::long_offset_row;
+use crate::shared::no_offset_row;
 use crate::shared::register_row_5;
 use crate::shared::register_row_8;
 use crate::shared::register_row_9;
-use crate::shared::two_entries;
+use crate::shared::short_offset_row;
 use numbers::words::byte_at;
 use numbers::words::word;
-use stm8::AluOp;
 use stm8::BitOp;
 use stm8::Decoded;
 use stm8::Instruction;
-use stm8::Offset;
-use stm8::Operand;
 use stm8::Register;
-use stm8::WordAluOp;
 
-fn plain_entry(op: u8, size: usize, a: u8, b: u8, c: u8, d: u8) -> Decoded
-    ensures { λ r. ⌜ r ≡ onPage Plain op size a b c d ⌝ }
+// The instruction at an op-code of the page without pre-code, with the bytes after it.
+fn plain_instruction(op: u8, a: u8, b: u8, c: u8, d: u8) -> Instruction
+    ensures { λ r. ⌜ r ≡ onPage Plain op a b c d r ⌝ }
 {
     let ab = word(a, b);
     let row = op / 16;
     match row {
-        1 => row_1(op, size, a, ab),
-        2 => row_2(op, size, a),
-        3 => row_3(op, size, a, ab, word(b, c)),
-        4 => row_4(op, size, a, b),
-        5 => row_5(op, size, a, ab, word(c, d)),
-        6 => one_entry(op, size, 11, Instruction::Store(Operand::Sp(a))),
-        7 => one_entry(op, size, 11, Instruction::Alu(AluOp::Ld, Operand::Sp(a))),
-        8 => row_8(op, size),
-        9 => row_9(op, size),
-        10 => row_a(op, size, a, ab),
-        11 => row_b(op, size, a),
-        12 => row_c(op, size, ab),
-        13 => alu_row(op, size, Operand::Indexed(Register::X, Offset::Word(ab))),
-        14 => alu_row(op, size, Operand::Indexed(Register::X, Offset::Byte(a))),
-        15 => alu_row(op, size, Operand::Indexed(Register::X, Offset::Zero)),
-        _ => Decoded::Outside,
+        1 => row_1(op, a, ab),
+        2 => row_2(op, a),
+        3 => row_3(op, a, ab, word(b, c)),
+        4 => row_4(op, a, b),
+        5 => row_5(op, a, ab, word(c, d)),
+        6 => row_6(a),
+        7 => row_7(a),
+        8 => row_8(op),
+        9 => row_9(op),
+        10 => row_a(op, a, ab),
+        11 => row_b(op, a),
+        12 => row_c(op, ab),
+        13 => long_offset_row(op, Register::X, ab),
+        14 => short_offset_row(op, Register::X, a),
+        _ => no_offset_row(op, Register::X),
+    }
+}
+
+// The same on the page after 72.
+fn after_72_instruction(op: u8, a: u8, b: u8, c: u8) -> Instruction
+    ensures { λ r. ⌜ r ≡ onPage After72 op a b c 0 r ⌝ }
+{
+    let ab = word(a, b);
+    let row = op / 16;
+    match row {
+        0 => bit_jump_row(op, ab, c),
+        1 => bit_row(op, BitOp::Bset, BitOp::Bres, ab),
+        5 => row_72_5(op, ab),
+        _ => row_72_a(op, ab),
+    }
+}
+
+// The same on the page after 90.
+fn after_90_instruction(op: u8, a: u8, b: u8) -> Instruction
+    ensures { λ r. ⌜ r ≡ onPage After90 op a b 0 0 r ⌝ }
+{
+    let ab = word(a, b);
+    let row = op / 16;
+    match row {
+        1 => bit_row(op, BitOp::Bcpl, BitOp::Bccm, ab),
+        4 => row_90_4(),
+        5 => register_row_5(op, Register::Y),
+        8 => register_row_8(op, Register::Y),
+        9 => register_row_9(op, Register::Y),
+        10 => row_90_a(op, ab),
+        12 => row_90_c(op, ab),
+        13 => long_offset_row(op, Register::Y, ab),
+        14 => short_offset_row(op, Register::Y, a),
+        _ => no_offset_row(op, Register::Y),
+    }
+}
+
+// An op-code of the given length, with the bytes after it: its instruction, if the op-code is in the set.
+fn plain_entry(op: u8, size: usize, a: u8, b: u8, c: u8, d: u8) -> Decoded
+    ensures { λ r. ⌜ r ≡ decodedAs Plain op size a b c d ⌝ }
+{
+    if has_column(plain_columns(op), op) {
+        Decoded::Found(plain_instruction(op, a, b, c, d), size)
+    } else {
+        Decoded::Outside
     }
 }
 
 fn after_72_entry(op: u8, size: usize, a: u8, b: u8, c: u8) -> Decoded
-    ensures { λ r. ⌜ r ≡ onPage After72 op size a b c 0 ⌝ }
+    ensures { λ r. ⌜ r ≡ decodedAs After72 op size a b c 0 ⌝ }
 {
-    let ab = word(a, b);
-    let row = op / 16;
-    match row {
-        0 => bit_jump_row(op, size, ab, c),
-        1 => bit_row(op, size, BitOp::Bset, BitOp::Bres, ab),
-        5 => modify_row(op, size, Operand::Long(ab)),
-        10 => two_entries(
-            op,
-            size,
-            2,
-            Instruction::WordAlu(WordAluOp::Subw, Register::Y, ab),
-            9,
-            Instruction::WordAlu(WordAluOp::Addw, Register::Y, ab),
-        ),
-        _ => Decoded::Outside,
+    if has_column(after_72_columns(op), op) {
+        Decoded::Found(after_72_instruction(op, a, b, c), size)
+    } else {
+        Decoded::Outside
     }
 }
 
 fn after_90_entry(op: u8, size: usize, a: u8, b: u8) -> Decoded
-    ensures { λ r. ⌜ r ≡ onPage After90 op size a b 0 0 ⌝ }
+    ensures { λ r. ⌜ r ≡ decodedAs After90 op size a b 0 0 ⌝ }
 {
-    let ab = word(a, b);
-    let row = op / 16;
-    match row {
-        1 => bit_row(op, size, BitOp::Bcpl, BitOp::Bccm, ab),
-        4 => one_entry(op, size, 2, Instruction::Mul(Register::Y)),
-        5 => register_row_5(op, size, Register::Y),
-        8 => register_row_8(op, size, Register::Y),
-        9 => register_row_9(op, size, Register::Y),
-        10 => two_entries(
-            op,
-            size,
-            3,
-            Instruction::WordAlu(WordAluOp::Cpw, Register::Y, ab),
-            14,
-            Instruction::LoadWord(Register::Y, Operand::ImmediateWord(ab)),
-        ),
-        12 => two_entries(
-            op,
-            size,
-            14,
-            Instruction::LoadWord(Register::Y, Operand::Long(ab)),
-            15,
-            Instruction::StoreWord(Register::Y, Operand::Long(ab)),
-        ),
-        13 => alu_row(op, size, Operand::Indexed(Register::Y, Offset::Word(ab))),
-        14 => alu_row(op, size, Operand::Indexed(Register::Y, Offset::Byte(a))),
-        15 => alu_row(op, size, Operand::Indexed(Register::Y, Offset::Zero)),
-        _ => Decoded::Outside,
+    if has_column(after_90_columns(op), op) {
+        Decoded::Found(after_90_instruction(op, a, b), size)
+    } else {
+        Decoded::Outside
     }
 }
 

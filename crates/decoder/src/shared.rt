@@ -1,148 +1,71 @@
-// Rows that several pages or registers share. The columns that a row of its own gives are outside the set here.
+// Rows that stand without pre-code for X and after 90 for Y, each asked only for the columns that it has.
 ghost use mathlib.Core.Path.{_≡_};
-ghost use Rattle.stm8.specs.OpcodeMap.{Blank, one, two, indexedRow, modifyRow, bitRow, registerRow5, registerRow8, registerRow9};
-ghost use Rattle.stm8.specs.declared.Instruction.the-variants.{Bit, BitJump};
-ghost use Rattle.stm8.specs.declared.BitTest.the-variants.{Btjt, Btjf};
+ghost use Rattle.stm8.specs.OpcodeMap.{Blank, indexedRow, registerRow5, registerRow8, registerRow9};
+ghost use Rattle.stm8.specs.declared.Operand.the-variants.{Indexed};
+ghost use Rattle.stm8.specs.declared.Offset.the-variants.{Zero, Byte, Word};
 ghost use Rattle.decoder.specs.Parts.{inRow};
-use stm8::AluOp;
-use stm8::BitOp;
-use stm8::BitTest;
-use stm8::Decoded;
+use crate::operations::alu_of;
 use stm8::Half;
 use stm8::Instruction;
-use stm8::ModifyOp;
+use stm8::Offset;
 use stm8::Operand;
 use stm8::Register;
 use stm8::WordModifyOp;
 
-// The operations on A with an operand.
-pub fn alu_row(op: u8, size: usize, x: Operand) -> Decoded
-    ensures { λ r. ⌜ r ≡ inRow (indexedRow x) op size ⌝ }
+// 5_, with A, C and F for either register.
+pub fn register_row_5(op: u8, register: Register) -> Instruction
+    ensures { λ r. ⌜ r ≡ inRow (registerRow5 register Blank Blank Blank Blank) op r ⌝ }
 {
     let column = op % 16;
     match column {
-        0 => Decoded::Found(Instruction::Alu(AluOp::Sub, x), size),
-        1 => Decoded::Found(Instruction::Alu(AluOp::Cp, x), size),
-        2 => Decoded::Found(Instruction::Alu(AluOp::Sbc, x), size),
-        4 => Decoded::Found(Instruction::Alu(AluOp::And, x), size),
-        5 => Decoded::Found(Instruction::Alu(AluOp::Bcp, x), size),
-        6 => Decoded::Found(Instruction::Alu(AluOp::Ld, x), size),
-        8 => Decoded::Found(Instruction::Alu(AluOp::Xor, x), size),
-        9 => Decoded::Found(Instruction::Alu(AluOp::Adc, x), size),
-        10 => Decoded::Found(Instruction::Alu(AluOp::Or, x), size),
-        11 => Decoded::Found(Instruction::Alu(AluOp::Add, x), size),
-        _ => Decoded::Outside,
+        10 => Instruction::WordModify(WordModifyOp::Decw, register),
+        12 => Instruction::WordModify(WordModifyOp::Incw, register),
+        _ => Instruction::WordModify(WordModifyOp::Clrw, register),
     }
 }
 
-// The operations that read, modify and write their operand.
-pub fn modify_row(op: u8, size: usize, x: Operand) -> Decoded
-    ensures { λ r. ⌜ r ≡ inRow (modifyRow x Blank Blank Blank) op size ⌝ }
+// 8_, with 5 and 9.
+pub fn register_row_8(op: u8, register: Register) -> Instruction
+    ensures { λ r. ⌜ r ≡ inRow (registerRow8 register Blank Blank Blank Blank) op r ⌝ }
 {
     let column = op % 16;
     match column {
-        0 => Decoded::Found(Instruction::Modify(ModifyOp::Neg, x), size),
-        3 => Decoded::Found(Instruction::Modify(ModifyOp::Cpl, x), size),
-        4 => Decoded::Found(Instruction::Modify(ModifyOp::Srl, x), size),
-        6 => Decoded::Found(Instruction::Modify(ModifyOp::Rrc, x), size),
-        7 => Decoded::Found(Instruction::Modify(ModifyOp::Sra, x), size),
-        8 => Decoded::Found(Instruction::Modify(ModifyOp::Sll, x), size),
-        9 => Decoded::Found(Instruction::Modify(ModifyOp::Rlc, x), size),
-        10 => Decoded::Found(Instruction::Modify(ModifyOp::Dec, x), size),
-        12 => Decoded::Found(Instruction::Modify(ModifyOp::Inc, x), size),
-        13 => Decoded::Found(Instruction::Modify(ModifyOp::Tnz, x), size),
-        14 => Decoded::Found(Instruction::Modify(ModifyOp::Swap, x), size),
-        15 => Decoded::Found(Instruction::Modify(ModifyOp::Clr, x), size),
-        _ => Decoded::Outside,
+        5 => Instruction::Popw(register),
+        _ => Instruction::Pushw(register),
     }
 }
 
-// The column's lowest bit picks the operation, and the others are the bit position.
-pub fn bit_row(op: u8, size: usize, even: BitOp, odd: BitOp, address: u16) -> Decoded
-    ensures { λ r. ⌜ r ≡ inRow (bitRow (λ n. Bit even n address) (λ n. Bit odd n address)) op size ⌝ }
-{
-    let column = op % 16;
-    let position = column / 2;
-    if column % 2 == 0 {
-        Decoded::Found(Instruction::Bit(even, position, address), size)
-    } else {
-        Decoded::Found(Instruction::Bit(odd, position, address), size)
-    }
-}
-
-pub fn bit_jump_row(op: u8, size: usize, address: u16, offset: u8) -> Decoded
-    ensures { λ r. ⌜ r ≡ inRow (bitRow (λ n. BitJump Btjt n address offset) (λ n. BitJump Btjf n address offset)) op size ⌝ }
-{
-    let column = op % 16;
-    let position = column / 2;
-    if column % 2 == 0 {
-        Decoded::Found(
-            Instruction::BitJump(BitTest::Btjt, position, address, offset),
-            size,
-        )
-    } else {
-        Decoded::Found(
-            Instruction::BitJump(BitTest::Btjf, position, address, offset),
-            size,
-        )
-    }
-}
-
-pub fn register_row_5(op: u8, size: usize, register: Register) -> Decoded
-    ensures { λ r. ⌜ r ≡ inRow (registerRow5 register Blank Blank Blank Blank) op size ⌝ }
+// 9_, with 3, 5, 7, E and F.
+pub fn register_row_9(op: u8, register: Register) -> Instruction
+    ensures { λ r. ⌜ r ≡ inRow (registerRow9 register Blank Blank Blank Blank) op r ⌝ }
 {
     let column = op % 16;
     match column {
-        10 => Decoded::Found(Instruction::WordModify(WordModifyOp::Decw, register), size),
-        12 => Decoded::Found(Instruction::WordModify(WordModifyOp::Incw, register), size),
-        15 => Decoded::Found(Instruction::WordModify(WordModifyOp::Clrw, register), size),
-        _ => Decoded::Outside,
+        3 => Instruction::CopyWord(register),
+        5 => Instruction::StoreHalf(register, Half::High),
+        7 => Instruction::StoreHalf(register, Half::Low),
+        14 => Instruction::LoadHalf(register, Half::High),
+        _ => Instruction::LoadHalf(register, Half::Low),
     }
 }
 
-pub fn register_row_8(op: u8, size: usize, register: Register) -> Decoded
-    ensures { λ r. ⌜ r ≡ inRow (registerRow8 register Blank Blank Blank Blank) op size ⌝ }
+// D_: (longoff,register).
+pub fn long_offset_row(op: u8, register: Register, offset: u16) -> Instruction
+    ensures { λ r. ⌜ r ≡ inRow (indexedRow (Indexed register (Word offset))) op r ⌝ }
 {
-    let column = op % 16;
-    match column {
-        5 => Decoded::Found(Instruction::Popw(register), size),
-        9 => Decoded::Found(Instruction::Pushw(register), size),
-        _ => Decoded::Outside,
-    }
+    Instruction::Alu(alu_of(op), Operand::Indexed(register, Offset::Word(offset)))
 }
 
-pub fn register_row_9(op: u8, size: usize, register: Register) -> Decoded
-    ensures { λ r. ⌜ r ≡ inRow (registerRow9 register Blank Blank Blank Blank) op size ⌝ }
+// E_: (shortoff,register).
+pub fn short_offset_row(op: u8, register: Register, offset: u8) -> Instruction
+    ensures { λ r. ⌜ r ≡ inRow (indexedRow (Indexed register (Byte offset))) op r ⌝ }
 {
-    let column = op % 16;
-    match column {
-        3 => Decoded::Found(Instruction::CopyWord(register), size),
-        5 => Decoded::Found(Instruction::StoreHalf(register, Half::High), size),
-        7 => Decoded::Found(Instruction::StoreHalf(register, Half::Low), size),
-        14 => Decoded::Found(Instruction::LoadHalf(register, Half::High), size),
-        15 => Decoded::Found(Instruction::LoadHalf(register, Half::Low), size),
-        _ => Decoded::Outside,
-    }
+    Instruction::Alu(alu_of(op), Operand::Indexed(register, Offset::Byte(offset)))
 }
 
-// A row with one entry.
-pub fn one_entry(op: u8, size: usize, k: u8, i: Instruction) -> Decoded
-    ensures { λ r. ⌜ r ≡ inRow (one k i) op size ⌝ }
+// F_: (register).
+pub fn no_offset_row(op: u8, register: Register) -> Instruction
+    ensures { λ r. ⌜ r ≡ inRow (indexedRow (Indexed register Zero)) op r ⌝ }
 {
-    if op % 16 == k {
-        Decoded::Found(i, size)
-    } else {
-        Decoded::Outside
-    }
-}
-
-// A row with two.
-pub fn two_entries(op: u8, size: usize, k: u8, i: Instruction, l: u8, j: Instruction) -> Decoded
-    ensures { λ r. ⌜ r ≡ inRow (two k i l j) op size ⌝ }
-{
-    if op % 16 == l {
-        Decoded::Found(j, size)
-    } else {
-        one_entry(op, size, k, i)
-    }
+    Instruction::Alu(alu_of(op), Operand::Indexed(register, Offset::Zero))
 }

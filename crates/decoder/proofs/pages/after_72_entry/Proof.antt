@@ -1,25 +1,21 @@
 -- `decoder::pages::after_72_entry` meets its contract.
-use mathlib.Core.Path.{refl}
-use mathlib.Core.List.{[], _∷_}
+use mathlib.Core.Path.{sym, _∙_}
+use mathlib.Core.List.{[]}
+use Prim.Native.Nat.{_/_}
+use lib.ListN.{getD}
 use Rattle.stm8.specs.OpcodeMap.{after72Page}
-use Rattle.decoder.specs.Parts.{inRow, onPage}
-use Rattle.decoder.proofs.Defaults.{other-rows}
-use borrow.Author.Needs.{needs}
+use Rattle.decoder.specs.Parts.{onPage, decodedAs}
+use Rattle.decoder.proofs.InSet.{in-set, not-in-set}
 use Rattle.decoder.proofs.pages.after_72_entry.Statement.{statement}
 use Rattle.decoder.proofs.pages.after_72_entry.Tie as tie
 
 pub after-72-entry-spec : {M : Type 1} → statement M
-unfolding inRow onPage
+unfolding onPage decodedAs
 after-72-entry-spec =
     tie.close
     (tie.spec
-    (λ c κs. search needs)
-    (λ c κs. search needs)
-    (λ c κs. search needs)
-    (λ c κs. search needs)
-    (λ c κs. search needs)
-    (λ c. rw (c .bit-jump-row .ensures, c .before .before .word .ensures, c .before .match .keys1))
-    (λ c. rw (c .bit-row .ensures, c .before .before .word .ensures, c .before .match .keys2))
-    (λ c. rw (c .modify-row .ensures, c .before .before .word .ensures, c .before .match .keys3))
-    (λ c. rw (c .two-entries .ensures, c .before .before .word .ensures, c .before .match .keys4))
-    (λ c. let s = c .before .before .args in other-rows (10 ∷ 5 ∷ 1 ∷ 0 ∷ []) (after72Page (s .a) (s .b) (s .c)) refl (s .op) (s .size) (c .before .before .fits .op .fits) (c .match .rest)))
+    (λ c κs. tt)
+    (λ c κs. tt)
+    (λ c κs. tt)
+    (λ c. let s = c .before .before .before .before .args in in-set (getD (after72Page (s .a) (s .b) (s .c)) (s .op / 16) []) (s .op) (c .before .before .before .after-72-columns .ensures (s .a) (s .b) (s .c)) (s .size) (c .after-72-instruction .result) (sym (c .before .before .has-column .ensures) ∙ c .before .if1 .taken) (c .after-72-instruction .ensures))
+    (λ c. let s = c .before .before .before .args in not-in-set (getD (after72Page (s .a) (s .b) (s .c)) (s .op / 16) []) (s .op) (c .before .before .after-72-columns .ensures (s .a) (s .b) (s .c)) (s .size) (sym (c .before .has-column .ensures) ∙ c .if1 .left)))

@@ -4,8 +4,7 @@ use mathlib.Core.List.{[], _∷_}
 use Rattle.stm8.specs.OpcodeMap.{indexedRow, row1}
 use Rattle.stm8.specs.declared.Operand.the-variants.{Sp}
 use Rattle.decoder.specs.Parts.{inRow}
-use Rattle.decoder.proofs.Defaults.{other-columns}
-use borrow.Author.Needs.{needs}
+use Rattle.decoder.proofs.Arms.{as-in}
 use Rattle.decoder.proofs.rows.row_1.Statement.{statement}
 use Rattle.decoder.proofs.rows.row_1.Tie as tie
 
@@ -14,11 +13,11 @@ unfolding inRow
 row-1-spec =
     tie.close
     (tie.spec
-    (λ c κs. search needs)
+    (λ c κs. tt)
     (λ c. rw (c .match .keys1))
     (λ c. rw (c .match .keys2))
     (λ c. rw (c .match .keys3))
     (λ c. rw (c .match .keys4))
     (λ c. rw (c .match .keys5))
     (λ c. rw (c .match .keys6))
-    (λ c. let s = c .before .before .args in c .alu-row .ensures ∙ other-columns (15 ∷ 14 ∷ 13 ∷ 12 ∷ 7 ∷ 6 ∷ []) (row1 (s .a) (s .ab)) (indexedRow (Sp (s .a))) refl (s .op) (s .size) (c .before .match .rest)))
+    (λ c. let s = c .before .before .args in c .alu-of .ensures (Sp (s .a)) ∙ as-in (indexedRow (Sp (s .a))) (row1 (s .a) (s .ab)) (15 ∷ 14 ∷ 13 ∷ 12 ∷ 7 ∷ 6 ∷ []) refl (s .op) _ (c .before .match .rest)))

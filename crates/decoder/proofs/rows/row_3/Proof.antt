@@ -4,8 +4,7 @@ use mathlib.Core.List.{[], _∷_}
 use Rattle.stm8.specs.OpcodeMap.{Blank, modifyRow, row3}
 use Rattle.stm8.specs.declared.Operand.the-variants.{Short}
 use Rattle.decoder.specs.Parts.{inRow}
-use Rattle.decoder.proofs.Defaults.{other-columns}
-use borrow.Author.Needs.{needs}
+use Rattle.decoder.proofs.Arms.{as-in}
 use Rattle.decoder.proofs.rows.row_3.Statement.{statement}
 use Rattle.decoder.proofs.rows.row_3.Tie as tie
 
@@ -14,8 +13,8 @@ unfolding inRow
 row-3-spec =
     tie.close
     (tie.spec
-    (λ c κs. search needs)
+    (λ c κs. tt)
     (λ c. rw (c .match .keys1))
     (λ c. rw (c .match .keys2))
     (λ c. rw (c .match .keys3))
-    (λ c. let s = c .before .before .args in c .modify-row .ensures ∙ other-columns (11 ∷ 5 ∷ 2 ∷ []) (row3 (s .a) (s .ab) (s .bc)) (modifyRow (Short (s .a)) Blank Blank Blank) refl (s .op) (s .size) (c .before .match .rest)))
+    (λ c. let s = c .before .before .args in c .modify-of .ensures (Short (s .a)) ∙ as-in (modifyRow (Short (s .a)) Blank Blank Blank) (row3 (s .a) (s .ab) (s .bc)) (11 ∷ 5 ∷ 2 ∷ []) refl (s .op) _ (c .before .match .rest)))

@@ -4,8 +4,7 @@ use mathlib.Core.List.{[], _∷_}
 use Rattle.stm8.specs.OpcodeMap.{Blank, modifyRow, row4}
 use Rattle.stm8.specs.declared.Operand.the-variants.{Accumulator}
 use Rattle.decoder.specs.Parts.{inRow}
-use Rattle.decoder.proofs.Defaults.{other-columns}
-use borrow.Author.Needs.{needs}
+use Rattle.decoder.proofs.Arms.{as-in}
 use Rattle.decoder.proofs.rows.row_4.Statement.{statement}
 use Rattle.decoder.proofs.rows.row_4.Tie as tie
 
@@ -14,8 +13,8 @@ unfolding inRow
 row-4-spec =
     tie.close
     (tie.spec
-    (λ c κs. search needs)
+    (λ c κs. tt)
     (λ c. rw (c .match .keys1))
     (λ c. rw (c .match .keys2))
     (λ c. rw (c .match .keys3))
-    (λ c. let s = c .before .before .args in c .modify-row .ensures ∙ other-columns (11 ∷ 5 ∷ 2 ∷ []) (row4 (s .a) (s .b)) (modifyRow Accumulator Blank Blank Blank) refl (s .op) (s .size) (c .before .match .rest)))
+    (λ c. let s = c .before .before .args in c .modify-of .ensures Accumulator ∙ as-in (modifyRow Accumulator Blank Blank Blank) (row4 (s .a) (s .b)) (11 ∷ 5 ∷ 2 ∷ []) refl (s .op) _ (c .before .match .rest)))

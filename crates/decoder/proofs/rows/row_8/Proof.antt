@@ -4,8 +4,7 @@ use mathlib.Core.List.{[], _∷_}
 use Rattle.stm8.specs.OpcodeMap.{Blank, registerRow8, row8}
 use Rattle.stm8.specs.declared.Register.the-variants.{X}
 use Rattle.decoder.specs.Parts.{inRow}
-use Rattle.decoder.proofs.Defaults.{other-columns}
-use borrow.Author.Needs.{needs}
+use Rattle.decoder.proofs.Arms.{as-in}
 use Rattle.decoder.proofs.rows.row_8.Statement.{statement}
 use Rattle.decoder.proofs.rows.row_8.Tie as tie
 
@@ -14,9 +13,9 @@ unfolding inRow
 row-8-spec =
     tie.close
     (tie.spec
-    (λ c κs. search needs)
+    (λ c κs. tt)
     (λ c. rw (c .match .keys1))
     (λ c. rw (c .match .keys2))
     (λ c. rw (c .match .keys3))
     (λ c. rw (c .match .keys4))
-    (λ c. let s = c .before .before .args in c .register-row-8 .ensures ∙ other-columns (12 ∷ 8 ∷ 4 ∷ 1 ∷ []) row8 (registerRow8 X Blank Blank Blank Blank) refl (s .op) (s .size) (c .before .match .rest)))
+    (λ c. let s = c .before .before .args in c .register-row-8 .ensures ∙ as-in (registerRow8 X Blank Blank Blank Blank) row8 (12 ∷ 8 ∷ 4 ∷ 1 ∷ []) refl (s .op) _ (c .before .match .rest)))

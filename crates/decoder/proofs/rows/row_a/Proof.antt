@@ -4,8 +4,7 @@ use mathlib.Core.List.{[], _∷_}
 use Rattle.stm8.specs.OpcodeMap.{indexedRow, rowA}
 use Rattle.stm8.specs.declared.Operand.the-variants.{Immediate}
 use Rattle.decoder.specs.Parts.{inRow}
-use Rattle.decoder.proofs.Defaults.{other-columns}
-use borrow.Author.Needs.{needs}
+use Rattle.decoder.proofs.Arms.{as-in}
 use Rattle.decoder.proofs.rows.row_a.Statement.{statement}
 use Rattle.decoder.proofs.rows.row_a.Tie as tie
 
@@ -14,8 +13,8 @@ unfolding inRow
 row-a-spec =
     tie.close
     (tie.spec
-    (λ c κs. search needs)
+    (λ c κs. tt)
     (λ c. rw (c .match .keys1))
     (λ c. rw (c .match .keys2))
     (λ c. rw (c .match .keys3))
-    (λ c. let s = c .before .before .args in c .alu-row .ensures ∙ other-columns (14 ∷ 13 ∷ 3 ∷ []) (rowA (s .a) (s .ab)) (indexedRow (Immediate (s .a))) refl (s .op) (s .size) (c .before .match .rest)))
+    (λ c. let s = c .before .before .args in c .alu-of .ensures (Immediate (s .a)) ∙ as-in (indexedRow (Immediate (s .a))) (rowA (s .a) (s .ab)) (14 ∷ 13 ∷ 3 ∷ []) refl (s .op) _ (c .before .match .rest)))

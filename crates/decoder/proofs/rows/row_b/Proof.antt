@@ -4,8 +4,7 @@ use mathlib.Core.List.{[], _∷_}
 use Rattle.stm8.specs.OpcodeMap.{indexedRow, rowB}
 use Rattle.stm8.specs.declared.Operand.the-variants.{Short}
 use Rattle.decoder.specs.Parts.{inRow}
-use Rattle.decoder.proofs.Defaults.{other-columns}
-use borrow.Author.Needs.{needs}
+use Rattle.decoder.proofs.Arms.{as-in}
 use Rattle.decoder.proofs.rows.row_b.Statement.{statement}
 use Rattle.decoder.proofs.rows.row_b.Tie as tie
 
@@ -14,6 +13,6 @@ unfolding inRow
 row-b-spec =
     tie.close
     (tie.spec
-    (λ c κs. search needs)
+    (λ c κs. tt)
     (λ c. rw (c .match .keys1))
-    (λ c. let s = c .before .before .args in c .alu-row .ensures ∙ other-columns (7 ∷ []) (rowB (s .a)) (indexedRow (Short (s .a))) refl (s .op) (s .size) (c .before .match .rest)))
+    (λ c. let s = c .before .before .args in c .alu-of .ensures (Short (s .a)) ∙ as-in (indexedRow (Short (s .a))) (rowB (s .a)) (7 ∷ []) refl (s .op) _ (c .before .match .rest)))

@@ -4,8 +4,7 @@ use mathlib.Core.List.{[], _∷_}
 use Rattle.stm8.specs.OpcodeMap.{indexedRow, rowC}
 use Rattle.stm8.specs.declared.Operand.the-variants.{Long}
 use Rattle.decoder.specs.Parts.{inRow}
-use Rattle.decoder.proofs.Defaults.{other-columns}
-use borrow.Author.Needs.{needs}
+use Rattle.decoder.proofs.Arms.{as-in}
 use Rattle.decoder.proofs.rows.row_c.Statement.{statement}
 use Rattle.decoder.proofs.rows.row_c.Tie as tie
 
@@ -14,9 +13,9 @@ unfolding inRow
 row-c-spec =
     tie.close
     (tie.spec
-    (λ c κs. search needs)
+    (λ c κs. tt)
     (λ c. rw (c .match .keys1))
     (λ c. rw (c .match .keys2))
     (λ c. rw (c .match .keys3))
     (λ c. rw (c .match .keys4))
-    (λ c. let s = c .before .before .args in c .alu-row .ensures ∙ other-columns (15 ∷ 14 ∷ 13 ∷ 7 ∷ []) (rowC (s .ab)) (indexedRow (Long (s .ab))) refl (s .op) (s .size) (c .before .match .rest)))
+    (λ c. let s = c .before .before .args in c .alu-of .ensures (Long (s .ab)) ∙ as-in (indexedRow (Long (s .ab))) (rowC (s .ab)) (15 ∷ 14 ∷ 13 ∷ 7 ∷ []) refl (s .op) _ (c .before .match .rest)))

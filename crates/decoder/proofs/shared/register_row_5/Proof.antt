@@ -2,8 +2,10 @@
 use mathlib.Core.Path.{refl}
 use mathlib.Core.List.{[], _∷_}
 use Rattle.stm8.specs.OpcodeMap.{Blank, registerRow5}
+use Rattle.stm8.specs.declared.WordModifyOp.the-variants.{Clrw}
+use Rattle.stm8.specs.declared.Instruction.the-variants.{WordModify}
 use Rattle.decoder.specs.Parts.{inRow}
-use Rattle.decoder.proofs.Defaults.{other-columns}
+use Rattle.decoder.proofs.Arms.{otherwise}
 use Rattle.decoder.proofs.shared.register_row_5.Statement.{statement}
 use Rattle.decoder.proofs.shared.register_row_5.Tie as tie
 
@@ -14,5 +16,4 @@ register-row-5-spec =
     (tie.spec
     (λ c. rw (c .match .keys1))
     (λ c. rw (c .match .keys2))
-    (λ c. rw (c .match .keys3))
-    (λ c. let s = c .before .args in other-columns (15 ∷ 12 ∷ 10 ∷ []) (registerRow5 (s .register) Blank Blank Blank Blank) [] refl (s .op) (s .size) (c .match .rest)))
+    (λ c. let s = c .before .args in otherwise (12 ∷ 10 ∷ []) (registerRow5 (s .register) Blank Blank Blank Blank) (WordModify Clrw (s .register)) refl (s .op) (c .match .rest)))

@@ -2,8 +2,9 @@
 use mathlib.Core.Path.{refl}
 use mathlib.Core.List.{[], _∷_}
 use Rattle.stm8.specs.OpcodeMap.{Blank, registerRow8}
+use Rattle.stm8.specs.declared.Instruction.the-variants.{Pushw}
 use Rattle.decoder.specs.Parts.{inRow}
-use Rattle.decoder.proofs.Defaults.{other-columns}
+use Rattle.decoder.proofs.Arms.{otherwise}
 use Rattle.decoder.proofs.shared.register_row_8.Statement.{statement}
 use Rattle.decoder.proofs.shared.register_row_8.Tie as tie
 
@@ -13,5 +14,4 @@ register-row-8-spec =
     tie.close
     (tie.spec
     (λ c. rw (c .match .keys1))
-    (λ c. rw (c .match .keys2))
-    (λ c. let s = c .before .args in other-columns (9 ∷ 5 ∷ []) (registerRow8 (s .register) Blank Blank Blank Blank) [] refl (s .op) (s .size) (c .match .rest)))
+    (λ c. let s = c .before .args in otherwise (5 ∷ []) (registerRow8 (s .register) Blank Blank Blank Blank) (Pushw (s .register)) refl (s .op) (c .match .rest)))

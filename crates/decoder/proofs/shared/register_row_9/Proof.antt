@@ -2,8 +2,10 @@
 use mathlib.Core.Path.{refl}
 use mathlib.Core.List.{[], _∷_}
 use Rattle.stm8.specs.OpcodeMap.{Blank, registerRow9}
+use Rattle.stm8.specs.declared.Half.the-variants.{Low}
+use Rattle.stm8.specs.declared.Instruction.the-variants.{LoadHalf}
 use Rattle.decoder.specs.Parts.{inRow}
-use Rattle.decoder.proofs.Defaults.{other-columns}
+use Rattle.decoder.proofs.Arms.{otherwise}
 use Rattle.decoder.proofs.shared.register_row_9.Statement.{statement}
 use Rattle.decoder.proofs.shared.register_row_9.Tie as tie
 
@@ -16,5 +18,4 @@ register-row-9-spec =
     (λ c. rw (c .match .keys2))
     (λ c. rw (c .match .keys3))
     (λ c. rw (c .match .keys4))
-    (λ c. rw (c .match .keys5))
-    (λ c. let s = c .before .args in other-columns (15 ∷ 14 ∷ 7 ∷ 5 ∷ 3 ∷ []) (registerRow9 (s .register) Blank Blank Blank Blank) [] refl (s .op) (s .size) (c .match .rest)))
+    (λ c. let s = c .before .args in otherwise (14 ∷ 7 ∷ 5 ∷ 3 ∷ []) (registerRow9 (s .register) Blank Blank Blank Blank) (LoadHalf (s .register) Low) refl (s .op) (c .match .rest)))

@@ -1,0 +1,27 @@
+-- `decoder::pages::after_72_instruction` meets its contract.
+use mathlib.Core.Path.{refl}
+use mathlib.Core.List.{[], _∷_}
+use Rattle.numbers.specs.Words.{word}
+use Rattle.stm8.specs.OpcodeMap.{two, after72Page}
+use Rattle.stm8.specs.declared.Register.the-variants.{Y}
+use Rattle.stm8.specs.declared.WordAluOp.the-variants.{Addw, Subw}
+use Rattle.stm8.specs.declared.Instruction.the-variants.{WordAlu}
+use Rattle.decoder.specs.Parts.{inRow, onPage}
+use Rattle.decoder.proofs.Arms.{last-row}
+use Rattle.decoder.proofs.pages.after_72_instruction.Statement.{statement}
+use Rattle.decoder.proofs.pages.after_72_instruction.Tie as tie
+
+pub after-72-instruction-spec : {M : Type 1} → statement M
+unfolding inRow onPage
+after-72-instruction-spec =
+    tie.close
+    (tie.spec
+    (λ c κs. tt)
+    (λ c κs. tt)
+    (λ c κs. tt)
+    (λ c κs. tt)
+    (λ c κs. tt)
+    (λ c. rw (c .before .match .keys1, ← c .before .before .word .ensures) (c .bit-jump-row .ensures))
+    (λ c. rw (c .before .match .keys2, ← c .before .before .word .ensures) (c .bit-row .ensures))
+    (λ c. rw (c .before .match .keys3, ← c .before .before .word .ensures) (c .row-72-5 .ensures))
+    (λ c. let s = c .before .before .before .args in last-row 10 (two 2 (WordAlu Subw Y (word (s .a) (s .b))) 9 (WordAlu Addw Y (word (s .a) (s .b)))) (after72Page (s .a) (s .b) (s .c)) (5 ∷ 1 ∷ 0 ∷ []) refl (s .op) _ (c .before .before .before .fits .op .fits) (c .before .match .rest) (rw (c .before .before .word .ensures) at (c .row-72-a .ensures))))
