@@ -3,6 +3,9 @@
 //! Every function is total: whatever the bytes, numbers and lengths, it returns. `include/gate.h` says what each leaves in each cell;
 //! [`cells`] has the same functions with those very cells, and [`twin`] an independent implementation to compare with.
 
+#![deny(unsafe_code)]
+
+#[allow(unsafe_code)]
 pub mod cells;
 pub mod twin;
 mod types;
@@ -52,13 +55,7 @@ pub fn step(image: &[u8], limits: &Limits, memory: &mut [u8], registers: &mut Re
 }
 
 /// Makes steps until the routine finishes, traps or `budget` steps are made.
-pub fn run(
-    image: &[u8],
-    limits: &Limits,
-    memory: &mut [u8],
-    registers: &mut Registers,
-    budget: u32,
-) -> Result<Run, Refusal> {
+pub fn run(image: &[u8], limits: &Limits, memory: &mut [u8], registers: &mut Registers, budget: u32) -> Result<Run, Refusal> {
     let mut cells = registers.to_cells();
     let mut steps = [0];
     let number = cells::run(image, limits, memory, &mut cells, budget, &mut steps);

@@ -27,6 +27,7 @@ fn recorded_encodings() {
         lines += 1;
     }
     assert_eq!(lines, 2_064);
+    println!("{lines} recorded encodings and their texts: no difference");
 }
 
 #[test]

@@ -44,7 +44,7 @@ fn recorded_steps() {
         PathBuf::from,
     );
     let Ok(records) = fs::read(&file) else {
-        eprintln!("SKIPPED: there is no {}; set GATE_STEPS to the recorded steps", file.display());
+        println!("SKIPPED: there is no {}; set GATE_STEPS to the file of recorded steps", file.display());
         return;
     };
     assert_eq!(records.len(), 8_320 * RECORD);
@@ -63,4 +63,5 @@ fn recorded_steps() {
         assert_eq!(after, registers(&record[29..]), "record {number}: {record:02X?}");
         assert!(memory == expected, "memory after record {number}: {record:02X?}");
     }
+    println!("{} recorded steps: no difference", records.len() / RECORD);
 }

@@ -164,9 +164,8 @@ fn depth_after(instruction: Instruction, depth: u16) -> Option<u16> {
 
 fn store_allowed(instruction: Instruction, depth: u16, limits: &Limits) -> bool {
     use Instruction::*;
-    let direct = |address: u16, bytes: u32| {
-        limits.grant_low <= address && u32::from(address) + bytes - 1 <= limits.grant_high.into()
-    };
+    let direct =
+        |address: u16, bytes: u32| limits.grant_low <= address && u32::from(address) + bytes - 1 <= limits.grant_high.into();
     let place = |place: Place, bytes: u32| match place {
         Place::Short(address) => direct(address.into(), bytes),
         Place::Long(address) => direct(address, bytes),

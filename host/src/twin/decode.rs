@@ -120,10 +120,24 @@ pub enum Instruction {
     Exgw,
     Mul(Index),
     Bit(Bit, u16, u8),
-    BitJump { jump_if: bool, address: u16, bit: u8, offset: i8 },
-    MoveImmediate { to: u16, value: u8 },
-    MoveShort { to: u8, from: u8 },
-    MoveLong { to: u16, from: u16 },
+    BitJump {
+        jump_if: bool,
+        address: u16,
+        bit: u8,
+        offset: i8,
+    },
+    MoveImmediate {
+        to: u16,
+        value: u8,
+    },
+    MoveShort {
+        to: u8,
+        from: u8,
+    },
+    MoveLong {
+        to: u16,
+        from: u16,
+    },
     PushA,
     PushImmediate(u8),
     PushLong(u16),

@@ -64,10 +64,8 @@ fn routine_lengths(table: &[u8]) -> impl Iterator<Item = usize> + '_ {
 pub fn validate(limits: &Limits) -> Result<(), Refusal> {
     let area = |low: u16, high: u16| low <= high && high <= 0x7FFF;
     let apart = limits.grant_high < limits.stack_low || limits.stack_high < limits.grant_low;
-    let good = area(limits.grant_low, limits.grant_high)
-        && area(limits.stack_low, limits.stack_high)
-        && limits.stack_low >= 1
-        && apart;
+    let good =
+        area(limits.grant_low, limits.grant_high) && area(limits.stack_low, limits.stack_high) && limits.stack_low >= 1 && apart;
     if good {
         Ok(())
     } else {

@@ -47,13 +47,7 @@ pub fn step(file: &[u8], limits: &Limits, memory: &mut [u8], registers: &mut Reg
 }
 
 /// Makes steps until the routine finishes, traps or `budget` steps are made.
-pub fn run(
-    file: &[u8],
-    limits: &Limits,
-    memory: &mut [u8],
-    registers: &mut Registers,
-    budget: u32,
-) -> Result<Run, Refusal> {
+pub fn run(file: &[u8], limits: &Limits, memory: &mut [u8], registers: &mut Registers, budget: u32) -> Result<Run, Refusal> {
     let mut machine = Machine::new(file, limits, memory)?;
     let mut steps = 0;
     let ending = loop {

@@ -121,14 +121,8 @@ pub fn start(
     let (mut library, mut other) = (marks.to_vec(), marks.to_vec());
     let (mut registers, mut twin_registers) = (given, Registers::from_cells(&given));
     let mut report = [u16::from(BLANK); 3];
-    let number = cells::start(
-        &case.image,
-        &case.limits,
-        &mut library,
-        &mut memories.library[..lent],
-        &mut registers,
-        &mut report,
-    );
+    let number =
+        cells::start(&case.image, &case.limits, &mut library, &mut memories.library[..lent], &mut registers, &mut report);
     let verdict = twin::start(&case.image, &case.limits, &mut other, &mut memories.twin[..lent], &mut twin_registers);
     same("start: number, and offset, need, count", &(number, report), &report_cells(verdict))?;
     same("start: registers", &registers, &twin_registers.to_cells())?;

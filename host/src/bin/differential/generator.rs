@@ -237,7 +237,8 @@ impl Generator<'_> {
             Instruction::PopA | Instruction::PopLong(_) => depth.checked_sub(1)?,
             Instruction::Popw(_) => depth.checked_sub(2)?,
             Instruction::SubSp(_) => {
-                bytes[1] = self.random.below(usize::from(routine.deepest - depth) + 1) as u8;
+                let most = usize::from(routine.deepest - depth);
+                bytes[1] = if self.random.one_in(4) { most } else { self.random.below(most + 1) } as u8;
                 depth + u16::from(bytes[1])
             }
             Instruction::AddSp(_) => {
@@ -325,6 +326,32 @@ impl Generator<'_> {
         Case { image: file(base, &lengths, &code), limits, marks }
     }
 
+    // Borders of the layout.
+
+    /// Routines of NOP and RET whose number, lengths and addresses are at or just past what the layout allows.
+    pub fn border(&mut self) -> Case {
+        let limits = self.limits();
+        let routines = self.random.pick(&[1, 2, 31, 32, 33]);
+        let total = self.random.pick(&[routines, 4_095, 4_096, 4_097]);
+        let mut lengths = vec![total / routines; routines];
+        lengths[routines - 1] += total % routines;
+        let mut code = vec![0x9D; total];
+        let mut end = 0;
+        for length in &lengths {
+            end += length;
+            code[end - 1] = 0x81;
+        }
+        if routines >= 2 && self.random.one_in(4) {
+            // The sum passes 16 bits and comes back to the same number.
+            lengths[0] += 0x8000;
+            lengths[1] += 0x8000;
+        }
+        let top = 0x1_0000 - total;
+        let base = self.random.pick(&[0x7FFF, 0x8000, 0x8001, top - 1, top, (top + 1).min(0xFFFF)]);
+        let marks = total - self.random.pick(&[0, 0, 0, 1]);
+        Case { image: file(base, &lengths, &code), limits, marks }
+    }
+
     // Damage.
 
     pub fn damage(&mut self, case: &mut Case) {
@@ -337,7 +364,7 @@ impl Generator<'_> {
         let table = 2 * usize::from(*case.image.get(7).unwrap_or(&0));
         let code = (8 + table).min(case.image.len());
         let length = case.image.len() - code;
-        match self.random.below(16) {
+        match self.random.below(20) {
             0..=4 if length > 0 => {
                 let at = code + self.random.below(length);
                 case.image[at] ^= 1 << self.random.below(8);
@@ -369,7 +396,26 @@ impl Generator<'_> {
                 case.image[5..7].copy_from_slice(&base.to_be_bytes());
             }
             14 => case.marks = self.random.pick(&[0, length.saturating_sub(1), length, length + 1]),
+            15..=17 => self.retarget(&mut case.image[code..]),
             _ => self.move_limit(&mut case.limits),
+        }
+    }
+
+    /// Some jump of sound code is made to go to another start, of whatever depth and routine, or beside one.
+    fn retarget(&mut self, code: &mut [u8]) {
+        let (mut starts, mut jumps, mut at) = (Vec::new(), Vec::new(), 0);
+        while let Ok((instruction, length)) = twin::decode(&code[at..]) {
+            starts.push(at);
+            at += length;
+            if matches!(instruction, Instruction::Jump(..) | Instruction::BitJump { .. }) {
+                jumps.push(at);
+            }
+        }
+        if let Some(next) = self.random.pick_if_any(&jumps) {
+            let near = starts.into_iter().map(|start| start as isize - next as isize);
+            let near: Vec<isize> = near.filter(|distance| (-128..=127).contains(distance)).collect();
+            let beside = isize::from(self.random.one_in(8));
+            code[next - 1] = (self.random.pick(&near) + beside) as u8;
         }
     }
 

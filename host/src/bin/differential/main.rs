@@ -112,7 +112,11 @@ impl<'a> Session<'a> {
         let mut memory = vec![0; MEMORY_BYTES];
         random.fill(&mut memory);
         let mut make = Generator { random, templates };
-        let case = if make.random.one_in(4) { make.noise() } else { make.accepted() };
+        let case = match make.random.below(20) {
+            0 => make.border(),
+            1..=5 => make.noise(),
+            _ => make.accepted(),
+        };
         Session { make, tally, memories: Memories { library: memory.clone(), twin: memory }, case, call: String::new() }
     }
 
@@ -121,14 +125,14 @@ impl<'a> Session<'a> {
         if let Some(need) = need {
             self.cut_stack(need)?;
         }
-        self.from_a_start()?;
+        self.started()?;
         self.anywhere(30)?;
         let sound = self.case.clone();
         for _ in 0..8 {
             self.make.damage(&mut self.case);
             self.check()?;
             if self.make.random.one_in(4) {
-                self.from_a_start()?;
+                self.started()?;
             }
             self.anywhere(6)?;
             self.case = sound.clone();
@@ -160,13 +164,12 @@ impl<'a> Session<'a> {
     }
 
     /// A start with any registers; where it is accepted, steps and runs go on from what it answers.
-    fn from_a_start(&mut self) -> Compared<()> {
+    fn started(&mut self) -> Compared<()> {
         let marks = self.marks();
         let lent = self.lent();
         let given = self.registers();
         self.call = format!("start with {lent} bytes of memory, registers {given:04X?}");
-        let (number, mut registers) =
-            compare::start(&self.case, &marks, &mut self.memories, lent, given, self.tally)?;
+        let (number, mut registers) = compare::start(&self.case, &marks, &mut self.memories, lent, given, self.tally)?;
         if number != OK {
             return Ok(());
         }
@@ -215,8 +218,7 @@ impl<'a> Session<'a> {
         };
         self.call = format!("run of {budget} with {lent} bytes of memory, registers {registers:04X?}");
         let Case { image, limits, .. } = &self.case;
-        let (_, after) =
-            compare::run(image, limits, &mut self.memories, lent, registers, budget as u32, self.tally)?;
+        let (_, after) = compare::run(image, limits, &mut self.memories, lent, registers, budget as u32, self.tally)?;
         Ok(after)
     }
 
