@@ -1,6 +1,6 @@
 #!/bin/sh
 # Builds examples/loader.c against the static library, runs it, and compares what it prints with examples/loader.expected.
-# With GATE_LIB_DIR set, the libgate_c.a of that folder is linked; else that of `rt staticlib gate_c`.
+# With GATE_LIB_DIR set to an absolute path, the libgate_c.a of that folder is linked; else that of `rt staticlib gate_c`.
 set -eu
 top=$(cd "$(dirname "$0")/.." && pwd)
 cd "$top"

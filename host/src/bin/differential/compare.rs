@@ -1,8 +1,9 @@
 //! One call to the library and to the twin, every cell compared, and the tally of answers.
 
 use crate::generator::Case;
+use crate::random::Random;
 use gate_host::cells::{self, RegisterCells, ReportCells};
-use gate_host::{twin, Accepted, Ending, Limits, Refused, Registers, Step, Trap, TEXT_BYTES};
+use gate_host::{twin, Accepted, Ending, Limits, Refused, Registers, Step, Trap, MEMORY_BYTES, TEXT_BYTES};
 use std::fmt::Debug;
 
 /// What differed, in words, or nothing.
@@ -87,12 +88,27 @@ fn report_cells(verdict: Result<Accepted, Refused>) -> (u8, ReportCells) {
 
 /// The memory as the library and as the twin have it. They are equal between calls.
 pub struct Memories {
-    pub library: Vec<u8>,
-    pub twin: Vec<u8>,
+    library: Vec<u8>,
+    twin: Vec<u8>,
 }
 
 impl Memories {
+    /// More than is ever rightly lent: its size and the right one are alike in 16 bits.
+    pub const CELLS: usize = MEMORY_BYTES + 0x1_0000;
+
+    pub fn new(random: &mut Random) -> Memories {
+        let mut memory = vec![BLANK; Memories::CELLS];
+        random.fill(&mut memory[..MEMORY_BYTES]);
+        Memories { library: memory.clone(), twin: memory }
+    }
+
+    /// All that is rightly lent, and a little more, is the same.
     fn same(&self) -> Compared<()> {
+        let most = MEMORY_BYTES + 8;
+        same_cells("memory at", &self.library[..most], &self.twin[..most])
+    }
+
+    pub fn same_everywhere(&self) -> Compared<()> {
         same_cells("memory at", &self.library, &self.twin)
     }
 }

@@ -379,6 +379,8 @@ impl Generator<'_> {
                 case.image[at] = self.random.byte();
             }
             8 => case.image.truncate(self.random.pick(&[code + length / 2, case.image.len().saturating_sub(1), code / 2, 7, 8])),
+            // A file that is longer by 65,536 bytes looks the same to 16 bits.
+            9 if self.random.one_in(8) => case.image.resize(case.image.len() + 0x1_0000, 0x9D),
             9 => case.image.push(self.random.byte()),
             10 if !case.image.is_empty() => {
                 let at = self.random.below(case.image.len().min(8));
@@ -395,6 +397,7 @@ impl Generator<'_> {
                 let base = self.random.pick(&[0x7FFF, 0x8000, 0x8001, top.wrapping_sub(1), top, top.wrapping_add(1)]);
                 case.image[5..7].copy_from_slice(&base.to_be_bytes());
             }
+            14 if self.random.one_in(8) => case.marks = 0x1_0000,
             14 => case.marks = self.random.pick(&[0, length.saturating_sub(1), length, length + 1]),
             15..=17 => self.retarget(&mut case.image[code..]),
             _ => self.move_limit(&mut case.limits),

@@ -73,16 +73,22 @@ fn differs(options: &Options, case: &str, description: &str) -> ! {
     exit(1);
 }
 
-/// Every pair of first bytes, cut at every length.
+/// Every pair of first bytes, cut at every length, and some with more bytes after them than 16 bits can count.
 fn every_opcode(options: &Options, tally: &mut Tally) {
     let mut random = Random::new(options.seed, u64::MAX);
+    let mut long = vec![0; 0x1_0004];
+    random.fill(&mut long);
     for pair in 0..=u16::MAX {
         let tail = random.next().to_be_bytes();
         let bytes = [&pair.to_be_bytes(), &tail[..4]].concat();
         for length in 0..=bytes.len() {
-            if let Err(description) = compare::decode(&bytes[..length], random.word(), tally) {
-                differs(options, "none (every pair of bytes)", &description);
-            }
+            let compared = compare::decode(&bytes[..length], random.word(), tally);
+            compared.unwrap_or_else(|description| differs(options, "none (every pair of bytes)", &description));
+        }
+        if pair % 256 == 0 {
+            let bytes = &long[usize::from(pair / 256) % 5..];
+            let compared = compare::decode(&bytes[..0x1_0000.min(bytes.len())], random.word(), tally);
+            compared.unwrap_or_else(|description| differs(options, "none (many bytes)", &description));
         }
     }
 }
@@ -109,15 +115,14 @@ struct Session<'a> {
 
 impl<'a> Session<'a> {
     fn new(random: &'a mut Random, templates: &'a [Template], tally: &'a mut Tally) -> Session<'a> {
-        let mut memory = vec![0; MEMORY_BYTES];
-        random.fill(&mut memory);
+        let memories = Memories::new(random);
         let mut make = Generator { random, templates };
         let case = match make.random.below(20) {
             0 => make.border(),
             1..=5 => make.noise(),
             _ => make.accepted(),
         };
-        Session { make, tally, memories: Memories { library: memory.clone(), twin: memory }, case, call: String::new() }
+        Session { make, tally, memories, case, call: String::new() }
     }
 
     fn whole(&mut self) -> Compared<()> {
@@ -137,6 +142,7 @@ impl<'a> Session<'a> {
             self.anywhere(6)?;
             self.case = sound.clone();
         }
+        self.memories.same_everywhere()?;
         self.decodes()
     }
 
@@ -232,10 +238,10 @@ impl<'a> Session<'a> {
         Ok(())
     }
 
-    /// The size of the lent memory: now and then another than the right one.
+    /// The size of the lent memory: now and then another than the right one, which 16 bits may not tell from it.
     fn lent(&mut self) -> usize {
         if self.make.random.one_in(100) {
-            self.make.random.pick(&[0, 100, MEMORY_BYTES - 1])
+            self.make.random.pick(&[0, 100, MEMORY_BYTES - 1, MEMORY_BYTES + 1, Memories::CELLS])
         } else {
             MEMORY_BYTES
         }
