@@ -28,8 +28,10 @@ fn main() {
     if let Some(model) = processor() {
         println!("{model}");
     }
+    let [decode_time, decode_rate] = decodes();
     let lines = [
-        decodes(),
+        decode_time,
+        decode_rate,
         decodes_alone(),
         checks(),
         single_steps(),
@@ -56,7 +58,8 @@ fn print_table(lines: &[Line], installed: bool) {
     }
     println!("The library's decode always writes the text too; the twin's decode alone is given for comparison with itself.");
     println!("Speed of the library, as a multiple of the other's:");
-    for line in lines {
+    // A time and the rate that it gives have the same ratio.
+    for line in lines.iter().filter(|line| line.unit != "million/s") {
         let speed = |other: Option<f64>| {
             let (library, other) = (line.library?, other?);
             Some(if line.rate { library / other } else { other / library })
@@ -107,7 +110,7 @@ fn code_and_count() -> (Vec<u8>, usize) {
     (image[image.len() - 4_096..].to_vec(), SWEEPS * usize::from(accepted.count))
 }
 
-fn decodes() -> Line {
+fn decodes() -> [Line; 2] {
     let (code, times) = code_and_count();
     let library = |bytes: &[u8], address: u16| {
         let decoded = black_box(gate_host::decode(bytes, address));
@@ -119,8 +122,15 @@ fn decodes() -> Line {
         length
     };
     let (library, twin) = best_of(|| sweep(&code, library), || sweep(&code, other));
-    let (library, twin) = (nanoseconds(library, times), nanoseconds(twin, times));
-    Line { name: "decode with its text", unit: "ns", library, twin, simulator: None, rate: false }
+    let line = |unit, rate, value: fn(Option<f64>) -> Option<f64>| Line {
+        name: "decode with its text",
+        unit,
+        library: value(nanoseconds(library, times)),
+        twin: value(nanoseconds(twin, times)),
+        simulator: None,
+        rate,
+    };
+    [line("ns", false, |nano| nano), line("million/s", true, |nano| Some(1e3 / nano?))]
 }
 
 fn decodes_alone() -> Line {

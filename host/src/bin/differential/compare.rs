@@ -122,7 +122,23 @@ pub fn check(case: &Case, marks: &[u16], tally: &mut Tally) -> Compared<Option<A
     same("check: number, and offset, need, count", &(number, report), &report_cells(verdict))?;
     same_cells("check: mark", &library, &other)?;
     tally.check.add(number);
+    if let Some(depths) = &case.depths {
+        by_construction(depths, number, report, &library)?;
+    }
     Ok(verdict.ok())
+}
+
+/// An image that was made to be accepted is, with the depths that it was made with, or is refused with 16.
+fn by_construction(depths: &[u16], number: u8, report: ReportCells, marks: &[u16]) -> Compared<()> {
+    match number {
+        cells::OK => {
+            let count = depths.iter().filter(|&&mark| mark != 0).count();
+            same("check: count, against construction", &usize::from(report[2]), &count)?;
+            same_cells("check: mark, against construction", &marks[..depths.len()], depths)
+        }
+        16 => Ok(()),
+        _ => Err(format!("check: an image that was made to be accepted is refused {number} {}", report[0])),
+    }
 }
 
 /// Starts, and gives the registers that both answered.

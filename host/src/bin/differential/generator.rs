@@ -12,6 +12,8 @@ pub struct Case {
     pub image: Vec<u8>,
     pub limits: Limits,
     pub marks: usize,
+    /// What acceptance leaves in the marks of the code, where the image was made to be accepted: all but refusal 16 is then ruled out.
+    pub depths: Option<Vec<u16>>,
 }
 
 /// One entry of the op-code pages that is in the set.
@@ -122,7 +124,8 @@ impl Generator<'_> {
             1..=3 => 1_000,
             _ => 200,
         };
-        let mut program = Program { code: Vec::new(), calls: Vec::new(), lengths: Vec::new(), firsts: Vec::new(), limits };
+        let mut program =
+            Program { code: Vec::new(), marks: Vec::new(), calls: Vec::new(), lengths: Vec::new(), firsts: Vec::new(), limits };
         for left in (1..=routines).rev() {
             let room = budget.saturating_sub(program.code.len()) / left;
             self.routine(&mut program, room.max(8));
@@ -133,7 +136,8 @@ impl Generator<'_> {
             1 => 0x1_0000 - code,
             _ => self.random.between(0x8000, 0x1_0000 - code),
         };
-        Case { image: program.image(base), limits, marks: code + self.random.pick(&[0, 0, 1, 9]) }
+        let depths = Some(std::mem::take(&mut program.marks));
+        Case { image: program.image(base), limits, marks: code + self.random.pick(&[0, 0, 1, 9]), depths }
     }
 
     /// Adds a routine of at most `room` bytes, which are at least 8.
@@ -323,7 +327,7 @@ impl Generator<'_> {
             _ => self.random.between(0x8000, 0x1_0000 - code.len()),
         };
         let marks = code.len() + self.random.below(3);
-        Case { image: file(base, &lengths, &code), limits, marks }
+        Case { image: file(base, &lengths, &code), limits, marks, depths: None }
     }
 
     // Borders of the layout.
@@ -349,12 +353,13 @@ impl Generator<'_> {
         let top = 0x1_0000 - total;
         let base = self.random.pick(&[0x7FFF, 0x8000, 0x8001, top - 1, top, (top + 1).min(0xFFFF)]);
         let marks = total - self.random.pick(&[0, 0, 0, 1]);
-        Case { image: file(base, &lengths, &code), limits, marks }
+        Case { image: file(base, &lengths, &code), limits, marks, depths: None }
     }
 
     // Damage.
 
     pub fn damage(&mut self, case: &mut Case) {
+        case.depths = None;
         for _ in 0..self.random.pick(&[1, 1, 1, 2, 3]) {
             self.damage_once(case);
         }
@@ -456,6 +461,7 @@ impl Generator<'_> {
 /// The code as it grows, routine after routine.
 struct Program {
     code: Vec<u8>,
+    marks: Vec<u16>,
     /// CALL operands: where they stand, and the offset of the routine that they name.
     calls: Vec<(usize, usize)>,
     lengths: Vec<usize>,
@@ -511,6 +517,8 @@ impl Routine {
     fn add(&mut self, program: &mut Program, bytes: &[u8]) {
         self.starts.push((program.code.len(), self.depth));
         program.code.extend(bytes);
+        program.marks.push(self.depth + 1);
+        program.marks.resize(program.code.len(), 0);
     }
 
     fn jump(&mut self, program: &mut Program, bytes: &[u8]) {

@@ -97,7 +97,7 @@ fn one_case(options: &Options, number: u64, templates: &[Template], tally: &mut 
     let mut random = Random::new(options.seed, number);
     let mut session = Session::new(&mut random, templates, tally);
     if let Err(description) = session.whole() {
-        let Case { image, limits, marks } = &session.case;
+        let Case { image, limits, marks, .. } = &session.case;
         let inputs = format!("{limits:04X?}\n{marks} marks, image {image:02X?}\n{}", session.call);
         differs(options, &number.to_string(), &format!("{description}\n{inputs}"));
     }
@@ -156,13 +156,16 @@ impl<'a> Session<'a> {
         Ok(accepted.map(|accepted| accepted.need))
     }
 
-    /// The stack area is cut to the need, which is accepted, and to one byte less, which is 16.
+    /// The stack area is cut to one byte less than the need, which is refused, and to the need, which is accepted.
     fn cut_stack(&mut self, need: u16) -> Compared<()> {
-        let stack_low = self.case.limits.stack_low;
-        self.case.limits.stack_low = self.case.limits.stack_high - (need - 2);
-        self.check()?;
-        self.case.limits.stack_low = self.case.limits.stack_high - (need - 1);
-        self.check()?;
+        let Limits { stack_low, stack_high, .. } = self.case.limits;
+        self.case.limits.stack_low = stack_high - (need - 2);
+        let short = self.check()?;
+        self.case.limits.stack_low = stack_high - (need - 1);
+        let exact = self.check()?;
+        if short.is_some() || exact != Some(need) {
+            return Err(format!("check: need {need}, but {short:?} with one byte less and {exact:?} with exactly that"));
+        }
         if self.make.random.one_in(2) {
             self.case.limits.stack_low = stack_low;
         }
