@@ -387,10 +387,7 @@ impl Generator<'_> {
             // A file that is longer by 65,536 bytes looks the same to 16 bits.
             9 if self.random.one_in(8) => case.image.resize(case.image.len() + 0x1_0000, 0x9D),
             9 => case.image.push(self.random.byte()),
-            10 if !case.image.is_empty() => {
-                let at = self.random.below(case.image.len().min(8));
-                case.image[at] = self.random.byte();
-            }
+            10 => self.scramble_header(&mut case.image),
             11 if table >= 4 && length > 0 => self.move_bound(case, table / 2),
             12 if table >= 2 && length > 0 => {
                 let at = 8 + 2 * self.random.below(table / 2);
@@ -406,6 +403,19 @@ impl Generator<'_> {
             14 => case.marks = self.random.pick(&[0, length.saturating_sub(1), length, length + 1]),
             15..=17 => self.retarget(&mut case.image[code..]),
             _ => self.move_limit(&mut case.limits),
+        }
+    }
+
+    /// One byte of the header, or several at once, so that one refusal hides another.
+    fn scramble_header(&mut self, image: &mut [u8]) {
+        let several = self.random.one_in(3);
+        let header = image.len().min(8);
+        let chosen = self.random.below(8);
+        for (at, byte) in image[..header].iter_mut().enumerate() {
+            if at == chosen || several && at >= 3 && self.random.one_in(2) {
+                *byte =
+                    if self.random.one_in(2) { self.random.byte() } else { self.random.pick(&[0x00, 0x01, 0x02, 0x21, 0x80]) };
+            }
         }
     }
 
