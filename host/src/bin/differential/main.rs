@@ -279,6 +279,8 @@ impl<'a> Session<'a> {
             3 => u32::from(base) + random.pick(&[0, code, code + 1]) as u32,
             _ => u32::from(base) + offset as u32,
         };
+        // Now and then a bit above the sixteenth, which takes PC out of the code.
+        let pc = if random.one_in(20) { pc ^ 1 << random.between(16, 31) } else { pc };
         let mut cells = [random.byte().into(), x.into(), y.into(), random.byte().into(), sp.into(), pc];
         if random.one_in(8) {
             for (cell, width) in cells.iter_mut().zip([8, 16, 16, 8, 16]) {
