@@ -1,6 +1,7 @@
 //! Speed, side by side in one run: the library, the twin, and the simulator uCsim (`sstm8`) where it is installed.
 //!
-//! Each figure is the best of many short rounds, in which library and twin take turns, so that other work on the machine weighs on neither.
+//! Each figure is the best of many rounds of about a millisecond, in which library and twin take turns, so that other work on the machine weighs on
+//! neither.
 
 use gate_host::{twin, Ending, Limits, Refusal, Registers, Run, MARKS_ENOUGH, MEMORY_BYTES};
 use std::fs;
@@ -9,7 +10,7 @@ use std::io::Write;
 use std::process::{Command, Stdio};
 use std::time::{Duration, Instant};
 
-const ROUNDS: usize = 25;
+const ROUNDS: usize = 200;
 const LIMITS: Limits = Limits { grant_low: 0x0000, grant_high: 0x00FF, stack_low: 0x1600, stack_high: 0x17FF };
 const BASE: u16 = 0x8000;
 
@@ -38,7 +39,7 @@ fn main() {
         runs("run, counting loop", Workload::counter),
         runs("run, mixed loop", Workload::mixed),
     ];
-    let installed = simulate(&Workload::counter(1)).is_some();
+    let installed = lines.iter().any(|line| line.simulator.is_some());
     print_table(&lines, installed);
 }
 
@@ -92,7 +93,7 @@ fn nanoseconds(time: Duration, times: usize) -> Option<f64> {
 
 // Decoding, over the instructions of the 4,096-byte image.
 
-const SWEEPS: usize = 20;
+const SWEEPS: usize = 4;
 
 /// Goes over the code instruction by instruction, `SWEEPS` times.
 fn sweep(code: &[u8], length_at: impl Fn(&[u8], u16) -> usize) {
@@ -143,7 +144,7 @@ fn decodes_alone() -> Line {
 // Checking.
 
 fn checks() -> Line {
-    const TIMES: usize = 20;
+    const TIMES: usize = 5;
     let image = full_image();
     let (mut marks, mut twin_marks) = ([0; MARKS_ENOUGH], [0; MARKS_ENOUGH]);
     let verdict = gate_host::check(&image, &LIMITS, &mut marks);
@@ -255,7 +256,7 @@ fn started(file: &[u8]) -> (Vec<u8>, Registers) {
 }
 
 fn single_steps() -> Line {
-    const TIMES: usize = 20_000;
+    const TIMES: usize = 4_000;
     let file = Workload::mixed(1).image();
     let (memory, registers) = started(&file);
     let (mut one, mut other) = (memory.clone(), memory);
@@ -281,7 +282,7 @@ type Runner = fn(&[u8], &Limits, &mut [u8], &mut Registers, u32) -> Result<Run, 
 
 /// A long run in slices, each of which is a round; the simulator, which is slower, makes a few turns of the same loop.
 fn runs(name: &'static str, workload: fn(u16) -> Workload) -> Line {
-    const SLICE: u32 = 100_000;
+    const SLICE: u32 = 20_000;
     let file = workload(u16::MAX).image();
     let mut one = started(&file);
     let mut other = one.clone();
@@ -292,38 +293,53 @@ fn runs(name: &'static str, workload: fn(u16) -> Workload) -> Line {
     let (library, twin) = best_of(|| slice(gate_host::run, &mut one), || slice(twin::run, &mut other));
     assert!(one == other, "library and twin come out alike");
     let rate = |time: Duration| Some(f64::from(SLICE) / time.as_secs_f64() / 1e6);
-    let simulator = simulate(&workload(4)).map(|rate| rate / 1e6);
+    let simulator = simulate(workload).map(|rate| rate / 1e6);
     Line { name, unit: "million steps/s", library: rate(library), twin: rate(twin), simulator, rate: true }
 }
 
-// The simulator. It is asked to run main from its first byte to its RET, and says itself how many instructions it made in what time.
+// The simulator. It runs main from its first byte to its RET and counts the instructions itself. Its processor time is the shell's account
+// of it; a short run is taken off a long one, so that loading counts for nothing.
 
-fn simulate(workload: &Workload) -> Option<f64> {
+/// Instructions a second of processor time.
+fn simulate(workload: fn(u16) -> Workload) -> Option<f64> {
+    let rate = || {
+        let (few, short) = simulated(&workload(1))?;
+        let (many, long) = simulated(&workload(60))?;
+        Some((many - few) / (long - short))
+    };
+    (0..3).filter_map(|_| rate()).filter(|rate| rate.is_finite()).reduce(f64::max)
+}
+
+/// The instructions of one run, and its processor time in seconds.
+fn simulated(workload: &Workload) -> Option<(f64, f64)> {
     let code = workload.routines.concat();
     let main = usize::from(BASE) + code.len() - workload.routines.last()?.len();
     let ret = usize::from(BASE) + code.len() - 1;
     let file = std::env::temp_dir().join(format!("gate-bench-{}.ihx", std::process::id()));
     fs::write(&file, intel_hex(&code)).ok()?;
-    let commands = format!("pc {main:#x}\nbreak {ret:#x}\nrun\nstate\nkill\n");
-    let rates: Vec<f64> = (0..ROUNDS / 2).filter_map(|_| simulated_rate(&file, &commands)).collect();
-    fs::remove_file(&file).ok()?;
-    rates.into_iter().reduce(f64::max)
-}
-
-fn simulated_rate(file: &std::path::Path, commands: &str) -> Option<f64> {
-    let mut simulator = Command::new("sstm8")
-        .args(["-t", "S208", "-b"])
-        .arg(file)
+    let mut shell = Command::new("sh")
+        .args(["-c", "sstm8 -t S208 -b \"$0\"; times"])
+        .arg(&file)
         .stdin(Stdio::piped())
         .stdout(Stdio::piped())
         .stderr(Stdio::null())
         .spawn()
         .ok()?;
-    simulator.stdin.take()?.write_all(commands.as_bytes()).ok()?;
-    let output = simulator.wait_with_output().ok()?;
+    let commands = format!("pc {main:#x}\nbreak {ret:#x}\nrun\nstate\nkill\n");
+    // Where there is no simulator, nobody reads the commands.
+    let _ = shell.stdin.take()?.write_all(commands.as_bytes());
+    let output = shell.wait_with_output().ok()?;
+    fs::remove_file(&file).ok()?;
     let text = String::from_utf8_lossy(&output.stdout).into_owned();
-    let after = |label: &str| text.split_once(label)?.1.split_whitespace().next()?.parse::<f64>().ok();
-    Some(after("Inst=")? / after("Host usage:")?)
+    let instructions = text.split_once("Inst=")?.1.split_whitespace().next()?.parse().ok()?;
+    let times = text.lines().last()?.split_whitespace().map(seconds);
+    Some((instructions, times.sum::<Option<f64>>()?))
+}
+
+/// The seconds of a time such as 0m0.130000s.
+fn seconds(time: &str) -> Option<f64> {
+    let (minutes, rest) = time.split_once('m')?;
+    Some(60.0 * minutes.parse::<f64>().ok()? + rest.strip_suffix('s')?.parse::<f64>().ok()?)
 }
 
 fn intel_hex(code: &[u8]) -> String {

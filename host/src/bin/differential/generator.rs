@@ -308,6 +308,11 @@ impl Generator<'_> {
                 let operand = if self.random.one_in(2) { self.random.below(6) as u8 } else { self.random.byte() };
                 code.push(operand);
             }
+            if template.length >= template.opcode.len() + 2 && self.random.one_in(3) {
+                let address = self.address(&limits, 0x8000, code.len());
+                let end = code.len();
+                code[end - 2..].copy_from_slice(&address.to_be_bytes());
+            }
             if self.random.one_in(12) {
                 code.push(self.random.byte());
             }
@@ -401,7 +406,8 @@ impl Generator<'_> {
             }
             14 if self.random.one_in(8) => case.marks = 0x1_0000,
             14 => case.marks = self.random.pick(&[0, length.saturating_sub(1), length, length + 1]),
-            15..=17 => self.retarget(&mut case.image[code..]),
+            15..=16 => self.retarget(&mut case.image[code..]),
+            17..=18 => self.readdress(&case.limits, &mut case.image[code..]),
             _ => self.move_limit(&mut case.limits),
         }
     }
@@ -421,19 +427,45 @@ impl Generator<'_> {
 
     /// Some jump of sound code is made to go to another start, of whatever depth and routine, or beside one.
     fn retarget(&mut self, code: &mut [u8]) {
-        let (mut starts, mut jumps, mut at) = (Vec::new(), Vec::new(), 0);
-        while let Ok((instruction, length)) = twin::decode(&code[at..]) {
-            starts.push(at);
-            at += length;
-            if matches!(instruction, Instruction::Jump(..) | Instruction::BitJump { .. }) {
-                jumps.push(at);
-            }
-        }
-        if let Some(next) = self.random.pick_if_any(&jumps) {
-            let near = starts.into_iter().map(|start| start as isize - next as isize);
+        let instructions = sweep(code);
+        let is_jump = |instruction| matches!(instruction, Instruction::Jump(..) | Instruction::BitJump { .. });
+        let jumps = instructions.iter().filter(|&&(_, instruction, _)| is_jump(instruction));
+        let nexts: Vec<usize> = jumps.map(|&(_, _, next)| next).collect();
+        if let Some(next) = self.random.pick_if_any(&nexts) {
+            let near = instructions.iter().map(|&(start, ..)| start as isize - next as isize);
             let near: Vec<isize> = near.filter(|distance| (-128..=127).contains(distance)).collect();
             let beside = isize::from(self.random.one_in(8));
             code[next - 1] = (self.random.pick(&near) + beside) as u8;
+        }
+    }
+
+    /// Some store of sound code gets another address, often at a border.
+    fn readdress(&mut self, limits: &Limits, code: &mut [u8]) {
+        let instructions = sweep(code);
+        let is_store = |instruction| {
+            matches!(
+                instruction,
+                Instruction::StoreA(_)
+                    | Instruction::StoreWord(..)
+                    | Instruction::Modify(_, Target::Long(_))
+                    | Instruction::Bit(..)
+                    | Instruction::MoveImmediate { .. }
+                    | Instruction::MoveLong { .. }
+                    | Instruction::PopLong(_)
+            )
+        };
+        let stores = instructions.iter().copied().filter(|&(_, instruction, _)| is_store(instruction));
+        let stores: Vec<(usize, Instruction, usize)> = stores.collect();
+        match self.random.pick_if_any(&stores) {
+            Some((_, Instruction::StoreA(Place::Stack(offset) | Place::Short(offset)), next))
+            | Some((_, Instruction::StoreWord(Place::Stack(offset), _), next)) => {
+                code[next - 1] = if self.random.one_in(4) { self.random.below(3) as u8 } else { offset.wrapping_add(1) };
+            }
+            Some((_, _, next)) => {
+                let address = if self.random.one_in(3) { 0xFFFF } else { self.address(limits, 0x8000, code.len()) };
+                code[next - 2..next].copy_from_slice(&address.to_be_bytes());
+            }
+            None => {}
         }
     }
 
@@ -487,6 +519,17 @@ impl Program {
         }
         file(base, &self.lengths, &self.code)
     }
+}
+
+/// The instructions of code from its first byte on: the offset of each, itself, and the offset after it.
+fn sweep(code: &[u8]) -> Vec<(usize, Instruction, usize)> {
+    let mut instructions = Vec::new();
+    let mut at = 0;
+    while let Ok((instruction, length)) = twin::decode(&code[at..]) {
+        instructions.push((at, instruction, at + length));
+        at += length;
+    }
+    instructions
 }
 
 fn file(base: usize, lengths: &[usize], code: &[u8]) -> Vec<u8> {
