@@ -6,6 +6,7 @@
 //! `--seed S --case K` makes that case again. The exit status is 1 where something differs, or where some answer was never met.
 
 mod compare;
+mod damage;
 mod generator;
 mod random;
 
