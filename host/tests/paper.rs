@@ -1,6 +1,6 @@
 //! Document 01's own examples, through the library and through the twin.
 
-use gate_host::{cells, twin, Accepted, Ending, Limits, Refusal, Refused, Registers, Run, Step, Trap, MEMORY_BYTES};
+use gate_host::{twin, Accepted, Ending, Limits, Refusal, Refused, Registers, Run, Step, Trap, MEMORY_BYTES};
 
 const LIMITS: Limits = Limits { grant_low: 0x0000, grant_high: 0x00FF, stack_low: 0x0300, stack_high: 0x03FF };
 
@@ -149,13 +149,4 @@ fn decode_and_its_text() {
     assert_eq!(gate_host::decode(&[0x8E], 0), Err(Refusal::Outside));
     assert_eq!(gate_host::decode(&[0x72], 0), Err(Refusal::Truncated));
     assert_eq!(gate_host::decode(&[], 0), Err(Refusal::Truncated));
-}
-
-#[test]
-fn registers_are_read_by_their_width() {
-    let file = image(&[&[0x9D, 0x81]]);
-    let mut memory = vec![0; MEMORY_BYTES];
-    let mut registers = [0x0501, 0x0006_0002, 0x0007_0003, 0x0804, 0x0009_03FD, 0x0000_8000];
-    assert_eq!(cells::step(&file, &LIMITS, &mut memory, &mut registers), cells::OK);
-    assert_eq!(registers, [1, 2, 3, 4, 0x03FD, 0x8001]);
 }

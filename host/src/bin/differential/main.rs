@@ -96,16 +96,16 @@ fn every_opcode(options: &Options, tally: &mut Tally) {
 
 fn one_case(options: &Options, number: u64, templates: &[Template], tally: &mut Tally) {
     let mut random = Random::new(options.seed, number);
-    let mut session = Session::new(&mut random, templates, tally);
-    if let Err(description) = session.whole() {
-        let Case { image, limits, marks, .. } = &session.case;
-        let inputs = format!("{limits:04X?}\n{marks} marks, image {image:02X?}\n{}", session.call);
+    let mut trial = Trial::new(&mut random, templates, tally);
+    if let Err(description) = trial.whole() {
+        let Case { image, limits, marks, .. } = &trial.case;
+        let inputs = format!("{limits:04X?}\n{marks} marks, image {image:02X?}\n{}", trial.call);
         differs(options, &number.to_string(), &format!("{description}\n{inputs}"));
     }
 }
 
 /// One case: an image, checks of it and of damaged copies, and a start, steps and runs of it.
-struct Session<'a> {
+struct Trial<'a> {
     make: Generator<'a>,
     tally: &'a mut Tally,
     memories: Memories,
@@ -114,8 +114,8 @@ struct Session<'a> {
     call: String,
 }
 
-impl<'a> Session<'a> {
-    fn new(random: &'a mut Random, templates: &'a [Template], tally: &'a mut Tally) -> Session<'a> {
+impl<'a> Trial<'a> {
+    fn new(random: &'a mut Random, templates: &'a [Template], tally: &'a mut Tally) -> Trial<'a> {
         let memories = Memories::new(random);
         let mut make = Generator { random, templates };
         let case = match make.random.below(20) {
@@ -123,7 +123,7 @@ impl<'a> Session<'a> {
             1..=5 => make.noise(),
             _ => make.accepted(),
         };
-        Session { make, tally, memories, case, call: String::new() }
+        Trial { make, tally, memories, case, call: String::new() }
     }
 
     fn whole(&mut self) -> Compared<()> {
