@@ -1,0 +1,90 @@
+/* A loader in C: checks an image, lists it, starts it and runs it, and prints the registers and the bytes that it stored.
+ *
+ *     rt staticlib gate_c
+ *     gcc -Iinclude examples/loader.c target/staticlib/libgate_c.a -o loader
+ *
+ * examples/loader.sh does both and compares what is printed with examples/loader.expected. */
+#include <inttypes.h>
+#include <stdio.h>
+#include <string.h>
+
+#include "gate.h"
+
+#define HEADER_BYTES 8u /* SLU, version, base and routine count; a length of two bytes for each routine follows */
+
+enum { GRANT_LOW = 0x0000, GRANT_HIGH = 0x00FF, STACK_LOW = 0x0300, STACK_HIGH = 0x03FF, BUDGET = 100000 };
+
+/* Document 01's example: one routine that stores 5 at 0010. */
+static const uint8_t store_five[] = {
+    0x53, 0x4C, 0x55, 0x00, 0x01, 0x80, 0x00, 0x01, 0x00, 0x05, 0xA6, 0x05, 0xB7, 0x10, 0x81,
+};
+
+/* The first of two routines adds A to the word at 0020; main calls it with 100, 99 and so on down to 1. */
+static const uint8_t sum_to_hundred[] = {
+    0x53, 0x4C, 0x55, 0x00, 0x01, 0x80, 0x00, 0x02, 0x00, 0x0B, 0x00, 0x0F,
+    0xBB, 0x21, 0xB7, 0x21, 0xB6, 0x20, 0xA9, 0x00, 0xB7, 0x20, 0x81,
+    0x3F, 0x20, 0x3F, 0x21, 0xAE, 0x00, 0x64, 0x9F, 0xCD, 0x80, 0x00, 0x5A, 0x26, 0xF9, 0x81,
+};
+
+/* It stores at 0100, past the grant. */
+static const uint8_t store_outside[] = {
+    0x53, 0x4C, 0x55, 0x00, 0x01, 0x80, 0x00, 0x01, 0x00, 0x04, 0xC7, 0x01, 0x00, 0x81,
+};
+
+static uint16_t marks[GATE_MARKS_ENOUGH];
+static uint8_t memory[GATE_MEMORY_BYTES];
+
+/* One line for each start of an accepted image: address, depth and text. */
+static void list(const uint8_t *image, size_t image_length)
+{
+    const size_t code = HEADER_BYTES + 2u * image[7];
+    const uint16_t base = (uint16_t)(image[5] << 8 | image[6]);
+    for (size_t at = code; at < image_length; at++) {
+        const uint16_t mark = marks[at - code];
+        const uint16_t address = (uint16_t)(base + (at - code));
+        uint8_t text[GATE_TEXT_BYTES];
+        uint32_t length[1];
+        if (mark != 0 && gate_decode(image + at, image_length - at, address, text, length) == GATE_OK)
+            printf("  %04X %u %s\n", (unsigned)address, (unsigned)mark - 1, (const char *)text);
+    }
+}
+
+static void print_state(const uint32_t registers[GATE_REGISTERS])
+{
+    printf("  A %02" PRIX32 ", X %04" PRIX32 ", Y %04" PRIX32 ", CC %02" PRIX32 ", SP %04" PRIX32 ", PC %06" PRIX32 "\n",
+           registers[GATE_A], registers[GATE_X], registers[GATE_Y], registers[GATE_CC], registers[GATE_SP], registers[GATE_PC]);
+    for (unsigned address = GRANT_LOW; address <= GRANT_HIGH; address++)
+        if (memory[address] != 0)
+            printf("  %04X: %02X\n", address, (unsigned)memory[address]);
+}
+
+static void load(const char *name, const uint8_t *image, size_t image_length)
+{
+    uint32_t registers[GATE_REGISTERS] = {0};
+    uint16_t report[GATE_REPORT];
+    uint32_t steps[1];
+    memset(memory, 0, sizeof memory);
+    const uint8_t verdict = gate_start(image, image_length, GRANT_LOW, GRANT_HIGH, STACK_LOW, STACK_HIGH,
+                                       marks, GATE_MARKS_ENOUGH, memory, sizeof memory, registers, report);
+    if (verdict != GATE_OK) {
+        printf("%s: refused %u %u\n", name, (unsigned)verdict, (unsigned)report[GATE_OFFSET]);
+        return;
+    }
+    printf("%s: accepted %u %u\n", name, (unsigned)report[GATE_NEED], (unsigned)report[GATE_COUNT]);
+    list(image, image_length);
+    const uint8_t ending = gate_run(image, image_length, GRANT_LOW, GRANT_HIGH, STACK_LOW, STACK_HIGH,
+                                    memory, sizeof memory, registers, BUDGET, steps);
+    if (ending == GATE_FINISHED)
+        printf("  finished after %" PRIu32 " steps\n", steps[0]);
+    else
+        printf("  ended with %u after %" PRIu32 " steps\n", (unsigned)ending, steps[0]);
+    print_state(registers);
+}
+
+int main(void)
+{
+    load("store five", store_five, sizeof store_five);
+    load("sum to a hundred", sum_to_hundred, sizeof sum_to_hundred);
+    load("store outside", store_outside, sizeof store_outside);
+    return 0;
+}

@@ -1,0 +1,262 @@
+//! One call to the library and to the twin, every cell compared, and the tally of answers.
+
+use crate::generator::Case;
+use crate::random::Random;
+use gate_host::cells::{self, RegisterCells, ReportCells};
+use gate_host::{twin, Accepted, Ending, Limits, Refused, Registers, Step, Trap, MEMORY_BYTES, TEXT_BYTES};
+use std::fmt::Debug;
+
+/// What differed, in words, or nothing.
+pub type Compared<T> = Result<T, String>;
+
+/// Contents of a lent cell before a call, to see whether it was written.
+const BLANK: u8 = 0xA5;
+
+/// How often each function gave each answer.
+#[derive(Default)]
+pub struct Tally {
+    pub check: Answers,
+    pub start: Answers,
+    pub step: Answers,
+    pub run: Answers,
+    pub decode: Answers,
+    /// The steps that runs made.
+    pub run_steps: u64,
+    /// Steps made one by one, for each op-code of the three pages.
+    pub opcodes: Vec<[u64; 256]>,
+    /// Trap 22: PC not in the code, bytes that run out, a call whose next address is 10000.
+    pub trap_22: [u64; 3],
+}
+
+impl Tally {
+    pub fn new() -> Tally {
+        Tally { opcodes: vec![[0; 256]; 3], ..Tally::default() }
+    }
+
+    /// The op-codes of which a step was made.
+    pub fn opcodes_met(&self) -> usize {
+        self.opcodes.iter().flatten().filter(|&&times| times > 0).count()
+    }
+}
+
+/// How often each number was answered.
+pub struct Answers([u64; 256]);
+
+impl Default for Answers {
+    fn default() -> Answers {
+        Answers([0; 256])
+    }
+}
+
+impl Answers {
+    pub fn total(&self) -> u64 {
+        self.0.iter().sum()
+    }
+
+    pub fn times(&self, number: u8) -> u64 {
+        self.0[usize::from(number)]
+    }
+
+    fn add(&mut self, number: u8) {
+        self.0[usize::from(number)] += 1;
+    }
+}
+
+fn same<T: PartialEq + Debug>(what: &str, library: &T, twin: &T) -> Compared<()> {
+    if library == twin {
+        Ok(())
+    } else {
+        Err(format!("{what}\n  library {library:?}\n  twin    {twin:?}"))
+    }
+}
+
+/// As `same`, for long slices: only the first cell that differs is named.
+fn same_cells<T: PartialEq + Debug>(what: &str, library: &[T], twin: &[T]) -> Compared<()> {
+    if library == twin {
+        return Ok(());
+    }
+    let at = library.iter().zip(twin).position(|(one, other)| one != other).unwrap_or(0);
+    same(&format!("{what} {at:04X}"), &library[at], &twin[at])
+}
+
+fn report_cells(verdict: Result<Accepted, Refused>) -> (u8, ReportCells) {
+    match verdict {
+        Ok(Accepted { need, count }) => (cells::OK, [0, need, count]),
+        Err(Refused { refusal, offset }) => (refusal.number(), [offset, 0, 0]),
+    }
+}
+
+/// The memory as the library and as the twin have it. They are equal between calls.
+pub struct Memories {
+    library: Vec<u8>,
+    twin: Vec<u8>,
+}
+
+impl Memories {
+    /// More than is ever rightly lent: its size and the right one are alike in 16 bits.
+    pub const CELLS: usize = MEMORY_BYTES + 0x1_0000;
+
+    pub fn new(random: &mut Random) -> Memories {
+        let mut memory = vec![BLANK; Memories::CELLS];
+        random.fill(&mut memory[..MEMORY_BYTES]);
+        Memories { library: memory.clone(), twin: memory }
+    }
+
+    /// All that is rightly lent, and a little more, is the same.
+    fn same(&self) -> Compared<()> {
+        let most = MEMORY_BYTES + 8;
+        same_cells("memory at", &self.library[..most], &self.twin[..most])
+    }
+
+    pub fn same_everywhere(&self) -> Compared<()> {
+        same_cells("memory at", &self.library, &self.twin)
+    }
+}
+
+/// Checks, and gives the need and count that both answered.
+pub fn check(case: &Case, marks: &[u16], tally: &mut Tally) -> Compared<Option<Accepted>> {
+    let (mut library, mut other) = (marks.to_vec(), marks.to_vec());
+    let mut report = [u16::from(BLANK); 3];
+    let number = cells::check(&case.image, &case.limits, &mut library, &mut report);
+    let verdict = twin::check(&case.image, &case.limits, &mut other);
+    same("check: number, and offset, need, count", &(number, report), &report_cells(verdict))?;
+    same_cells("check: mark", &library, &other)?;
+    tally.check.add(number);
+    if let Some(depths) = &case.depths {
+        by_construction(depths, number, report, &library)?;
+    }
+    Ok(verdict.ok())
+}
+
+/// An image that was made to be accepted is, with the depths that it was made with, or is refused with 16.
+fn by_construction(depths: &[u16], number: u8, report: ReportCells, marks: &[u16]) -> Compared<()> {
+    match number {
+        cells::OK => {
+            let count = depths.iter().filter(|&&mark| mark != 0).count();
+            same("check: count, against construction", &usize::from(report[2]), &count)?;
+            same_cells("check: mark, against construction", &marks[..depths.len()], depths)
+        }
+        16 => Ok(()),
+        _ => Err(format!("check: an image that was made to be accepted is refused {number} {}", report[0])),
+    }
+}
+
+/// Starts, and gives the registers that both answered.
+pub fn start(
+    case: &Case,
+    marks: &[u16],
+    memories: &mut Memories,
+    lent: usize,
+    given: RegisterCells,
+    tally: &mut Tally,
+) -> Compared<(u8, RegisterCells)> {
+    let (mut library, mut other) = (marks.to_vec(), marks.to_vec());
+    let (mut registers, mut twin_registers) = (given, Registers::from_cells(&given));
+    let mut report = [u16::from(BLANK); 3];
+    let number =
+        cells::start(&case.image, &case.limits, &mut library, &mut memories.library[..lent], &mut registers, &mut report);
+    let verdict = twin::start(&case.image, &case.limits, &mut other, &mut memories.twin[..lent], &mut twin_registers);
+    same("start: number, and offset, need, count", &(number, report), &report_cells(verdict))?;
+    same("start: registers", &registers, &twin_registers.to_cells())?;
+    same_cells("start: mark", &library, &other)?;
+    memories.same()?;
+    tally.start.add(number);
+    Ok((number, registers))
+}
+
+/// Makes one step, and gives the registers that both answered.
+pub fn step(
+    image: &[u8],
+    limits: &Limits,
+    memories: &mut Memories,
+    lent: usize,
+    given: RegisterCells,
+    tally: &mut Tally,
+) -> Compared<(u8, RegisterCells)> {
+    let (mut registers, mut twin_registers) = (given, Registers::from_cells(&given));
+    let number = cells::step(image, limits, &mut memories.library[..lent], &mut registers);
+    let answer = twin::step(image, limits, &mut memories.twin[..lent], &mut twin_registers);
+    let twin_number = match answer {
+        Ok(Step::Made) => cells::OK,
+        Ok(Step::Finished) => cells::FINISHED,
+        Ok(Step::Trapped(trap)) => trap.number(),
+        Err(refusal) => refusal.number(),
+    };
+    same("step: number and registers", &(number, registers), &(twin_number, twin_registers.to_cells()))?;
+    memories.same()?;
+    tally.step.add(number);
+    match answer {
+        Ok(Step::Made) => note_opcode(image, given, tally),
+        Ok(Step::Trapped(Trap::Pc)) => note_trap_22(image, given, tally),
+        _ => {}
+    }
+    Ok((number, registers))
+}
+
+/// The code bytes from PC on, where PC is in the code of a good image.
+fn bytes_at(image: &[u8], registers: RegisterCells) -> Option<&[u8]> {
+    let image = twin::Image::parse(image).ok()?;
+    image.code.get(registers[5].wrapping_sub(image.base) as usize..).filter(|bytes| !bytes.is_empty())
+}
+
+fn note_opcode(image: &[u8], registers: RegisterCells, tally: &mut Tally) {
+    let (page, opcode) = match bytes_at(image, registers) {
+        Some([0x72, opcode, ..]) => (1, *opcode),
+        Some([0x90, opcode, ..]) => (2, *opcode),
+        Some([opcode, ..]) => (0, *opcode),
+        _ => return,
+    };
+    tally.opcodes[page][usize::from(opcode)] += 1;
+}
+
+fn note_trap_22(image: &[u8], registers: RegisterCells, tally: &mut Tally) {
+    let why = match bytes_at(image, registers).map(twin::decode) {
+        None => 0,
+        Some(Err(_)) => 1,
+        Some(Ok(_)) => 2,
+    };
+    tally.trap_22[why] += 1;
+}
+
+/// Runs, and gives the registers that both answered.
+pub fn run(
+    image: &[u8],
+    limits: &Limits,
+    memories: &mut Memories,
+    lent: usize,
+    given: RegisterCells,
+    budget: u32,
+    tally: &mut Tally,
+) -> Compared<(u8, RegisterCells)> {
+    let (mut registers, mut twin_registers) = (given, Registers::from_cells(&given));
+    let mut steps = [u32::from(BLANK)];
+    let number = cells::run(image, limits, &mut memories.library[..lent], &mut registers, budget, &mut steps);
+    let (twin_number, twin_steps) = match twin::run(image, limits, &mut memories.twin[..lent], &mut twin_registers, budget) {
+        Ok(run) => match run.ending {
+            Ending::Finished => (cells::FINISHED, run.steps),
+            Ending::Spent => (cells::SPENT, run.steps),
+            Ending::Trapped(trap) => (trap.number(), run.steps),
+        },
+        Err(refusal) => (refusal.number(), 0),
+    };
+    let library = (number, steps[0], registers);
+    same(&format!("run of {budget}: number, steps, registers"), &library, &(twin_number, twin_steps, twin_registers.to_cells()))?;
+    memories.same()?;
+    tally.run.add(number);
+    tally.run_steps += u64::from(steps[0]);
+    Ok((number, registers))
+}
+
+pub fn decode(bytes: &[u8], address: u16, tally: &mut Tally) -> Compared<()> {
+    let mut text = [BLANK; TEXT_BYTES];
+    let mut length = [u32::from(BLANK)];
+    let number = cells::decode(bytes, address, &mut text, &mut length);
+    let expected = match twin::decode(bytes) {
+        Ok((instruction, length)) => (cells::OK, length as u32, twin::text(instruction, length, address).0),
+        Err(twin::Undecodable::Outside) => (8, 0, [0; TEXT_BYTES]),
+        Err(twin::Undecodable::Truncated) => (9, 0, [0; TEXT_BYTES]),
+    };
+    same(&format!("decode of {bytes:02X?} at {address:04X}: number, length, text"), &(number, length[0], text), &expected)?;
+    tally.decode.add(number);
+    Ok(())
+}

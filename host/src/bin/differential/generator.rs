@@ -1,0 +1,444 @@
+//! Images and limits: routines that are accepted by construction, noise, and borders of the layout.
+
+use crate::random::Random;
+use gate_host::twin::{self, Instruction, Modify, Place, Target};
+use gate_host::Limits;
+
+const CODE_AT_MOST: usize = 4_096;
+
+/// What a check is given, but for the contents of the marks.
+#[derive(Clone)]
+pub struct Case {
+    pub image: Vec<u8>,
+    pub limits: Limits,
+    pub marks: usize,
+    /// What acceptance leaves in the marks of the code, where the image was made to be accepted: all but refusal 16 is then ruled out.
+    pub depths: Option<Vec<u16>>,
+}
+
+/// One entry of the op-code pages that is in the set.
+pub struct Template {
+    opcode: Vec<u8>,
+    length: usize,
+    instruction: Instruction,
+}
+
+/// Every op-code of the set.
+pub fn templates() -> Vec<Template> {
+    let pages: [&[u8]; 3] = [&[], &[0x72], &[0x90]];
+    let mut templates = Vec::new();
+    for page in pages {
+        for last in 0..=255u8 {
+            if page.is_empty() && matches!(last, 0x72 | 0x90) {
+                continue;
+            }
+            let opcode = [page, &[last]].concat();
+            let mut bytes = opcode.clone();
+            bytes.resize(6, 0);
+            if let Ok((instruction, length)) = twin::decode(&bytes) {
+                templates.push(Template { opcode, length, instruction });
+            }
+        }
+    }
+    templates
+}
+
+pub struct Generator<'a> {
+    pub random: &'a mut Random,
+    pub templates: &'a [Template],
+}
+
+impl Generator<'_> {
+    // Limits.
+
+    pub fn limits(&mut self) -> Limits {
+        if self.random.one_in(3) {
+            return Limits { grant_low: 0x0000, grant_high: 0x00FF, stack_low: 0x0300, stack_high: 0x03FF };
+        }
+        let stack_bytes = match self.random.below(4) {
+            0 => self.random.between(1, 40),
+            1 => self.random.between(40, 600),
+            _ => self.random.between(600, 9_000),
+        };
+        let grant_bytes = match self.random.below(4) {
+            0 => self.random.between(1, 4),
+            1 => self.random.between(4, 300),
+            _ => self.random.between(300, 15_000),
+        };
+        let gap = if self.random.one_in(3) { 0 } else { self.random.below(2_000) };
+        let grant_first = self.random.one_in(2);
+        // The stack cannot begin at 0.
+        let lowest = usize::from(!grant_first);
+        let highest = 0x8000 - (stack_bytes + gap + grant_bytes);
+        let first = match self.random.below(4) {
+            0 => lowest,
+            1 => highest,
+            _ => self.random.between(lowest, highest),
+        } as u16;
+        let (first_bytes, second_bytes) = if grant_first { (grant_bytes, stack_bytes) } else { (stack_bytes, grant_bytes) };
+        let first_high = first + first_bytes as u16 - 1;
+        let second = first_high + 1 + gap as u16;
+        let second_high = second + second_bytes as u16 - 1;
+        if grant_first {
+            Limits { grant_low: first, grant_high: first_high, stack_low: second, stack_high: second_high }
+        } else {
+            Limits { grant_low: second, grant_high: second_high, stack_low: first, stack_high: first_high }
+        }
+    }
+
+    /// An address on which something may turn.
+    pub fn address(&mut self, limits: &Limits, base: u16, code: usize) -> u16 {
+        let near = [
+            limits.grant_low,
+            limits.grant_high,
+            limits.stack_low,
+            limits.stack_high,
+            0x0000,
+            0x00FF,
+            0x7FFF,
+            0x8000,
+            0xFFFF,
+            base,
+            base.wrapping_add(code as u16),
+        ];
+        match self.random.below(3) {
+            0 => self.random.word(),
+            1 => base.wrapping_add(self.random.below(code + 1) as u16),
+            _ => self.random.pick(&near).wrapping_add(self.random.between(0, 4) as u16).wrapping_sub(2),
+        }
+    }
+
+    /// An address where a store of a byte or a word is just allowed, or just not.
+    pub fn grant_border(&mut self, limits: &Limits) -> u16 {
+        let Limits { grant_low, grant_high, .. } = *limits;
+        let borders = [grant_low.wrapping_sub(1), grant_low, grant_high.wrapping_sub(1), grant_high, grant_high.wrapping_add(1)];
+        if self.random.one_in(8) {
+            0xFFFF
+        } else {
+            self.random.pick(&borders)
+        }
+    }
+
+    // Accepted images.
+
+    /// An image that the check accepts, unless its need is above the stack area.
+    pub fn accepted(&mut self) -> Case {
+        let limits = self.limits();
+        let routines = match self.random.below(4) {
+            0 => 1,
+            1 => self.random.between(2, 4),
+            2 => self.random.between(2, 12),
+            _ => self.random.between(1, 32),
+        };
+        let budget = match self.random.below(12) {
+            0 => CODE_AT_MOST,
+            1..=3 => 1_000,
+            _ => 200,
+        };
+        let mut program =
+            Program { code: Vec::new(), marks: Vec::new(), calls: Vec::new(), lengths: Vec::new(), firsts: Vec::new(), limits };
+        for left in (1..=routines).rev() {
+            let room = budget.saturating_sub(program.code.len()) / left;
+            self.routine(&mut program, room.max(8));
+        }
+        let code = program.code.len();
+        let base = match self.random.below(4) {
+            0 => 0x8000,
+            1 => 0x1_0000 - code,
+            _ => self.random.between(0x8000, 0x1_0000 - code),
+        };
+        let depths = Some(std::mem::take(&mut program.marks));
+        Case { image: program.image(base), limits, marks: code + self.random.pick(&[0, 0, 1, 9]), depths }
+    }
+
+    /// Adds a routine of at most `room` bytes, which are at least 8.
+    fn routine(&mut self, program: &mut Program, room: usize) {
+        let first = program.code.len();
+        let deepest = self.random.pick(&[4, 30, 255]);
+        let mut routine = Routine { depth: 0, deepest, starts: Vec::new(), jumps: Vec::new() };
+        // Room is left for one more instruction and the routine's end.
+        let body = self.random.below(room - 7);
+        while program.code.len() - first < body {
+            self.instruction(program, &mut routine);
+        }
+        if self.random.one_in(5) {
+            routine.jump(program, &[0x20, 0]);
+        } else {
+            if routine.depth > 0 {
+                routine.add(program, &[0x5B, routine.depth as u8]);
+                routine.depth = 0;
+            }
+            routine.add(program, &[0x81]);
+        }
+        self.resolve(program, &routine);
+        program.firsts.push(first);
+        program.lengths.push(program.code.len() - first);
+    }
+
+    /// Adds one instruction that is allowed where it stands, or none if the op-code that came up has no allowed form.
+    fn instruction(&mut self, program: &mut Program, routine: &mut Routine) {
+        let template = &self.templates[self.random.below(self.templates.len())];
+        let mut bytes = template.opcode.clone();
+        bytes.resize_with(template.length, || self.random.byte());
+        match template.instruction {
+            Instruction::Jump(0, _) => {
+                routine.jump(program, &bytes);
+                self.reach(program, routine);
+            }
+            Instruction::Jump(..) | Instruction::BitJump { .. } => routine.jump(program, &bytes),
+            Instruction::Ret => {
+                let here = program.code.len() + 1;
+                if routine.depth == 0 && routine.jumps.iter().any(|jump| jump.reaches(here)) {
+                    routine.add(program, &bytes);
+                    self.reach(program, routine);
+                }
+            }
+            _ => {
+                let allowed = self.operands(program, routine, template, &mut bytes);
+                if let Some(after) = allowed.and_then(|()| self.depth_after(routine, template, &mut bytes)) {
+                    routine.add(program, &bytes);
+                    routine.depth = after;
+                }
+            }
+        }
+    }
+
+    /// Mends the operands of calls and stores, if they can be mended.
+    fn operands(&mut self, program: &mut Program, routine: &Routine, template: &Template, bytes: &mut [u8]) -> Option<()> {
+        let (at, depth, end) = (program.code.len(), usize::from(routine.depth), bytes.len());
+        match template.instruction {
+            Instruction::Call(_) => {
+                let callee = self.random.pick_if_any(&program.firsts)?;
+                program.calls.push((at + 1, callee));
+            }
+            Instruction::CallRelative(_) => {
+                let next = at + 2;
+                let near: Vec<usize> = program.firsts.iter().copied().filter(|first| next - first <= 128).collect();
+                bytes[1] = (self.random.pick_if_any(&near)? as isize - next as isize) as u8;
+            }
+            Instruction::StoreA(Place::Stack(_)) if depth < 1 => return None,
+            Instruction::StoreA(Place::Stack(_)) => bytes[1] = self.random.between(1, depth) as u8,
+            Instruction::StoreWord(Place::Stack(_), _) if depth < 2 => return None,
+            Instruction::StoreWord(Place::Stack(_), _) => bytes[1] = self.random.between(1, depth - 1) as u8,
+            Instruction::StoreA(Place::Short(_)) | Instruction::MoveShort { .. } => {
+                bytes[end - 1] = self.short(&program.limits)?;
+            }
+            Instruction::Modify(operation, Target::Short(_)) if operation != Modify::Tnz => {
+                bytes[1] = self.short(&program.limits)?;
+            }
+            Instruction::Modify(operation, Target::Long(_)) if operation != Modify::Tnz => {
+                bytes[2..].copy_from_slice(&self.direct(&program.limits, 1)?);
+            }
+            Instruction::StoreA(_)
+            | Instruction::MoveImmediate { .. }
+            | Instruction::MoveLong { .. }
+            | Instruction::Bit(..)
+            | Instruction::PopLong(_) => bytes[end - 2..].copy_from_slice(&self.direct(&program.limits, 1)?),
+            Instruction::StoreWord(..) => bytes[end - 2..].copy_from_slice(&self.direct(&program.limits, 2)?),
+            _ if template.length >= template.opcode.len() + 2 && self.random.one_in(2) => {
+                bytes[end - 2..].copy_from_slice(&self.address(&program.limits, 0x8000, at + 8).to_be_bytes());
+            }
+            _ => {}
+        }
+        Some(())
+    }
+
+    /// The depth after an instruction, its count mended where it has one, if that is a depth.
+    fn depth_after(&mut self, routine: &Routine, template: &Template, bytes: &mut [u8]) -> Option<u16> {
+        let depth = routine.depth;
+        let after = match template.instruction {
+            Instruction::PushA | Instruction::PushImmediate(_) | Instruction::PushLong(_) => depth + 1,
+            Instruction::Pushw(_) => depth + 2,
+            Instruction::PopA | Instruction::PopLong(_) => depth.checked_sub(1)?,
+            Instruction::Popw(_) => depth.checked_sub(2)?,
+            Instruction::SubSp(_) => {
+                let most = usize::from(routine.deepest - depth);
+                bytes[1] = if self.random.one_in(4) { most } else { self.random.below(most + 1) } as u8;
+                depth + u16::from(bytes[1])
+            }
+            Instruction::AddSp(_) => {
+                bytes[1] = self.random.below(usize::from(depth) + 1) as u8;
+                depth - u16::from(bytes[1])
+            }
+            _ => depth,
+        };
+        (after <= routine.deepest).then_some(after)
+    }
+
+    /// A short address in the grant.
+    fn short(&mut self, limits: &Limits) -> Option<u8> {
+        let highest = limits.grant_high.min(0xFF);
+        (limits.grant_low <= highest).then(|| self.random.between(limits.grant_low.into(), highest.into()) as u8)
+    }
+
+    /// An address at which `bytes` bytes lie in the grant, often at its ends.
+    fn direct(&mut self, limits: &Limits, bytes: u16) -> Option<[u8; 2]> {
+        let highest = limits.grant_high.checked_sub(bytes - 1).filter(|&highest| highest >= limits.grant_low)?;
+        let address = match self.random.below(4) {
+            0 => limits.grant_low,
+            1 => highest,
+            _ => self.random.between(limits.grant_low.into(), highest.into()) as u16,
+        };
+        Some(address.to_be_bytes())
+    }
+
+    /// After JRA or RET: some earlier jump goes to the next instruction, which has that jump's depth.
+    fn reach(&mut self, program: &mut Program, routine: &mut Routine) {
+        let here = program.code.len();
+        let near: Vec<usize> = (0..routine.jumps.len()).filter(|&number| routine.jumps[number].reaches(here)).collect();
+        let jump = &mut routine.jumps[self.random.pick(&near)];
+        jump.fixed = true;
+        program.code[jump.next - 1] = (here - jump.next) as u8;
+        routine.depth = jump.depth;
+    }
+
+    /// The jumps that are still free go to starts of their depth; their own start is always one.
+    fn resolve(&mut self, program: &mut Program, routine: &Routine) {
+        for jump in routine.jumps.iter().filter(|jump| !jump.fixed) {
+            let distance = |start: usize| start as isize - jump.next as isize;
+            let near: Vec<isize> = routine
+                .starts
+                .iter()
+                .filter(|&&(start, depth)| depth == jump.depth && (-128..=127).contains(&distance(start)))
+                .map(|&(start, _)| distance(start))
+                .collect();
+            program.code[jump.next - 1] = self.random.pick(&near) as u8;
+        }
+    }
+
+    // Noise.
+
+    /// An image with a good header whose code is a few instructions of the set with any operands, or any bytes.
+    pub fn noise(&mut self) -> Case {
+        let limits = self.limits();
+        let mut code = Vec::new();
+        for _ in 0..self.random.between(1, 8) {
+            let template = &self.templates[self.random.below(self.templates.len())];
+            code.extend(&template.opcode);
+            for _ in template.opcode.len()..template.length {
+                let operand = if self.random.one_in(2) { self.random.below(6) as u8 } else { self.random.byte() };
+                code.push(operand);
+            }
+            if template.length >= template.opcode.len() + 2 && self.random.one_in(3) {
+                let grant = self.random.one_in(2);
+                let address = if grant { self.grant_border(&limits) } else { self.address(&limits, 0x8000, code.len()) };
+                let end = code.len();
+                code[end - 2..].copy_from_slice(&address.to_be_bytes());
+            }
+            if self.random.one_in(12) {
+                code.push(self.random.byte());
+            }
+        }
+        if self.random.one_in(4) {
+            let call: &[u8] = if self.random.one_in(2) { &[0xCD, 0x80, 0x00] } else { &[0xAD, 0x00] };
+            code.extend(call);
+        }
+        let routines = self.random.between(1, code.len().min(4));
+        let mut lengths = vec![1; routines];
+        for _ in routines..code.len() {
+            lengths[self.random.below(routines)] += 1;
+        }
+        let base = match self.random.below(3) {
+            0 => 0x8000,
+            1 => 0x1_0000 - code.len(),
+            _ => self.random.between(0x8000, 0x1_0000 - code.len()),
+        };
+        let marks = code.len() + self.random.below(3);
+        Case { image: file(base, &lengths, &code), limits, marks, depths: None }
+    }
+
+    // Borders of the layout.
+
+    /// Routines of NOP and RET whose number, lengths and addresses are at or just past what the layout allows.
+    pub fn border(&mut self) -> Case {
+        let limits = self.limits();
+        let routines = self.random.pick(&[1, 2, 31, 32, 33]);
+        let total = self.random.pick(&[routines, 4_095, 4_096, 4_097]);
+        let mut lengths = vec![total / routines; routines];
+        lengths[routines - 1] += total % routines;
+        let mut code = vec![0x9D; total];
+        let mut end = 0;
+        for length in &lengths {
+            end += length;
+            code[end - 1] = 0x81;
+        }
+        if routines >= 2 && self.random.one_in(4) {
+            // The sum passes 16 bits and comes back to the same number.
+            lengths[0] += 0x8000;
+            lengths[1] += 0x8000;
+        }
+        let top = 0x1_0000 - total;
+        let base = self.random.pick(&[0x7FFF, 0x8000, 0x8001, top - 1, top, (top + 1).min(0xFFFF)]);
+        let marks = total - self.random.pick(&[0, 0, 0, 1]);
+        Case { image: file(base, &lengths, &code), limits, marks, depths: None }
+    }
+}
+
+/// The code as it grows, routine after routine.
+struct Program {
+    code: Vec<u8>,
+    marks: Vec<u16>,
+    /// CALL operands: where they stand, and the offset of the routine that they name.
+    calls: Vec<(usize, usize)>,
+    lengths: Vec<usize>,
+    firsts: Vec<usize>,
+    limits: Limits,
+}
+
+impl Program {
+    fn image(mut self, base: usize) -> Vec<u8> {
+        for &(operand, callee) in &self.calls {
+            let address = (base + callee) as u16;
+            self.code[operand..operand + 2].copy_from_slice(&address.to_be_bytes());
+        }
+        file(base, &self.lengths, &self.code)
+    }
+}
+
+fn file(base: usize, lengths: &[usize], code: &[u8]) -> Vec<u8> {
+    let mut file = b"SLU\x00\x01".to_vec();
+    file.extend((base as u16).to_be_bytes());
+    file.push(lengths.len() as u8);
+    for &length in lengths {
+        file.extend((length as u16).to_be_bytes());
+    }
+    file.extend(code);
+    file
+}
+
+/// A jump whose target is not chosen yet, unless it is fixed.
+struct Jump {
+    /// The offset after it; its own offset byte is the one before.
+    next: usize,
+    depth: u16,
+    fixed: bool,
+}
+
+impl Jump {
+    /// Whether it can still be made to go forward to `here`.
+    fn reaches(&self, here: usize) -> bool {
+        !self.fixed && here - self.next <= 127
+    }
+}
+
+/// The routine that is being added.
+struct Routine {
+    depth: u16,
+    deepest: u16,
+    starts: Vec<(usize, u16)>,
+    jumps: Vec<Jump>,
+}
+
+impl Routine {
+    fn add(&mut self, program: &mut Program, bytes: &[u8]) {
+        self.starts.push((program.code.len(), self.depth));
+        program.code.extend(bytes);
+        program.marks.push(self.depth + 1);
+        program.marks.resize(program.code.len(), 0);
+    }
+
+    fn jump(&mut self, program: &mut Program, bytes: &[u8]) {
+        self.add(program, bytes);
+        self.jumps.push(Jump { next: program.code.len(), depth: self.depth, fixed: false });
+    }
+}

@@ -1,0 +1,172 @@
+//! The functions of `include/gate.h` with slices for pointers: the same numbers and the same cells. All unsafe code of this package is here.
+
+use crate::types::{Limits, TEXT_BYTES};
+
+/// The answer of a step that was made, a check that accepted, bytes that were decoded.
+pub const OK: u8 = 0;
+/// The answer of a step that began at PC 0, and of a run that reached it.
+pub const FINISHED: u8 = 64;
+/// The answer of a run that used up its budget.
+pub const SPENT: u8 = 65;
+
+/// The cells of a report: offset, need, count.
+pub type ReportCells = [u16; 3];
+/// The cells of a register set: A, X, Y, CC, SP, PC.
+pub type RegisterCells = [u32; 6];
+
+mod c {
+    use super::{RegisterCells, ReportCells, TEXT_BYTES};
+
+    // The archive is named by build.rs; the signatures are those of include/gate.h.
+    extern "C" {
+        pub fn gate_check(
+            image: *const u8,
+            image_length: usize,
+            grant_low: u16,
+            grant_high: u16,
+            stack_low: u16,
+            stack_high: u16,
+            marks: *mut u16,
+            marks_length: usize,
+            report: *mut ReportCells,
+        ) -> u8;
+        pub fn gate_start(
+            image: *const u8,
+            image_length: usize,
+            grant_low: u16,
+            grant_high: u16,
+            stack_low: u16,
+            stack_high: u16,
+            marks: *mut u16,
+            marks_length: usize,
+            memory: *mut u8,
+            memory_length: usize,
+            registers: *mut RegisterCells,
+            report: *mut ReportCells,
+        ) -> u8;
+        pub fn gate_step(
+            image: *const u8,
+            image_length: usize,
+            grant_low: u16,
+            grant_high: u16,
+            stack_low: u16,
+            stack_high: u16,
+            memory: *mut u8,
+            memory_length: usize,
+            registers: *mut RegisterCells,
+        ) -> u8;
+        pub fn gate_run(
+            image: *const u8,
+            image_length: usize,
+            grant_low: u16,
+            grant_high: u16,
+            stack_low: u16,
+            stack_high: u16,
+            memory: *mut u8,
+            memory_length: usize,
+            registers: *mut RegisterCells,
+            budget: u32,
+            steps: *mut [u32; 1],
+        ) -> u8;
+        pub fn gate_decode(
+            bytes: *const u8,
+            bytes_length: usize,
+            address: u16,
+            text: *mut [u8; TEXT_BYTES],
+            length: *mut [u32; 1],
+        ) -> u8;
+    }
+}
+
+pub fn check(image: &[u8], limits: &Limits, marks: &mut [u16], report: &mut ReportCells) -> u8 {
+    // SAFETY: each pointer comes from a reference that lives through the call, so it is not null (an empty slice's neither), aligned, and leads
+    // to as many cells as the length beside it or its array type says. What is written comes from `&mut`, so it lies in no other argument.
+    unsafe {
+        c::gate_check(
+            image.as_ptr(),
+            image.len(),
+            limits.grant_low,
+            limits.grant_high,
+            limits.stack_low,
+            limits.stack_high,
+            marks.as_mut_ptr(),
+            marks.len(),
+            report,
+        )
+    }
+}
+
+pub fn start(
+    image: &[u8],
+    limits: &Limits,
+    marks: &mut [u16],
+    memory: &mut [u8],
+    registers: &mut RegisterCells,
+    report: &mut ReportCells,
+) -> u8 {
+    // SAFETY: as for `check`: every pointer and length come from one reference, and those written from `&mut`, which overlap nothing.
+    unsafe {
+        c::gate_start(
+            image.as_ptr(),
+            image.len(),
+            limits.grant_low,
+            limits.grant_high,
+            limits.stack_low,
+            limits.stack_high,
+            marks.as_mut_ptr(),
+            marks.len(),
+            memory.as_mut_ptr(),
+            memory.len(),
+            registers,
+            report,
+        )
+    }
+}
+
+pub fn step(image: &[u8], limits: &Limits, memory: &mut [u8], registers: &mut RegisterCells) -> u8 {
+    // SAFETY: as for `check`: every pointer and length come from one reference, and those written from `&mut`, which overlap nothing.
+    unsafe {
+        c::gate_step(
+            image.as_ptr(),
+            image.len(),
+            limits.grant_low,
+            limits.grant_high,
+            limits.stack_low,
+            limits.stack_high,
+            memory.as_mut_ptr(),
+            memory.len(),
+            registers,
+        )
+    }
+}
+
+pub fn run(
+    image: &[u8],
+    limits: &Limits,
+    memory: &mut [u8],
+    registers: &mut RegisterCells,
+    budget: u32,
+    steps: &mut [u32; 1],
+) -> u8 {
+    // SAFETY: as for `check`: every pointer and length come from one reference, and those written from `&mut`, which overlap nothing.
+    unsafe {
+        c::gate_run(
+            image.as_ptr(),
+            image.len(),
+            limits.grant_low,
+            limits.grant_high,
+            limits.stack_low,
+            limits.stack_high,
+            memory.as_mut_ptr(),
+            memory.len(),
+            registers,
+            budget,
+            steps,
+        )
+    }
+}
+
+pub fn decode(bytes: &[u8], address: u16, text: &mut [u8; TEXT_BYTES], length: &mut [u32; 1]) -> u8 {
+    // SAFETY: as for `check`: every pointer and length come from one reference, and those written from `&mut`, which overlap nothing.
+    unsafe { c::gate_decode(bytes.as_ptr(), bytes.len(), address, text, length) }
+}

@@ -1,0 +1,74 @@
+//! Limits and the layout of an SLU image: refusals 1 to 4.
+
+use crate::types::{Limits, Refusal};
+
+const HEADER: usize = 8;
+const CODE_AT_MOST: usize = 4_096;
+const ADDRESSES: usize = 0x1_0000;
+
+/// An image whose layout is right.
+#[derive(Clone, Copy, Debug)]
+pub struct Image<'a> {
+    /// The address of the first code byte.
+    pub base: u32,
+    pub code: &'a [u8],
+    lengths: &'a [u8],
+}
+
+impl<'a> Image<'a> {
+    /// Takes the file apart, or gives 2, 3 or 4.
+    pub fn parse(file: &'a [u8]) -> Result<Image<'a>, Refusal> {
+        if file.len() < HEADER || !file.starts_with(b"SLU") {
+            return Err(Refusal::NotSlu);
+        }
+        if file[3..5] != [0, 1] {
+            return Err(Refusal::Version);
+        }
+        let base = usize::from(u16::from_be_bytes([file[5], file[6]]));
+        let count = usize::from(file[7]);
+        let (lengths, code) = file[HEADER..].split_at_checked(2 * count).ok_or(Refusal::Layout)?;
+        let total: usize = routine_lengths(lengths).sum();
+        let good = (1..=32).contains(&count)
+            && routine_lengths(lengths).all(|length| length >= 1)
+            && total <= CODE_AT_MOST
+            && base >= 0x8000
+            && base + total <= ADDRESSES
+            && code.len() == total;
+        if good {
+            Ok(Image { base: base as u32, code, lengths })
+        } else {
+            Err(Refusal::Layout)
+        }
+    }
+
+    /// The routines in table order: the offsets of their first byte and of the byte after their last.
+    pub fn routines(&self) -> impl Iterator<Item = (usize, usize)> + 'a {
+        routine_lengths(self.lengths).scan(0, |end, length| {
+            let first = *end;
+            *end += length;
+            Some((first, *end))
+        })
+    }
+
+    /// The offset of main, the last routine.
+    pub fn main(&self) -> usize {
+        self.routines().last().map_or(0, |(first, _)| first)
+    }
+}
+
+fn routine_lengths(table: &[u8]) -> impl Iterator<Item = usize> + '_ {
+    table.chunks_exact(2).map(|pair| usize::from(u16::from_be_bytes([pair[0], pair[1]])))
+}
+
+/// Refusal 1: in both areas low is not above high and both are at most 7FFF, stack low is at least 1, and no address is in both.
+pub fn validate(limits: &Limits) -> Result<(), Refusal> {
+    let area = |low: u16, high: u16| low <= high && high <= 0x7FFF;
+    let apart = limits.grant_high < limits.stack_low || limits.stack_high < limits.grant_low;
+    let good =
+        area(limits.grant_low, limits.grant_high) && area(limits.stack_low, limits.stack_high) && limits.stack_low >= 1 && apart;
+    if good {
+        Ok(())
+    } else {
+        Err(Refusal::Limits)
+    }
+}

@@ -1,0 +1,16 @@
+//! An independent twin of the loader in plain Rust, written from document 01 and the STM8 manual alone, never from the proved code.
+//!
+//! What is worth comparing is what two people read out of the same papers, so nothing here is shared with the library but the names of [`crate::Limits`]
+//! and the like. It is also the yardstick of speed.
+
+mod check;
+mod decode;
+mod image;
+mod machine;
+mod text;
+
+pub use check::check;
+pub use decode::{decode, Alu, Bit, Half, Index, Instruction, Modify, Place, Source, Target, Undecodable, WordOp, WordSource};
+pub use image::{validate, Image};
+pub use machine::{run, start, step};
+pub use text::text;

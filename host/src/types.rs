@@ -1,0 +1,209 @@
+//! What goes into the loader and what it answers, in the words of document 01.
+
+/// The memory that start, step and run are lent: addresses 0000 to 7FFF.
+pub const MEMORY_BYTES: usize = 32_768;
+/// The most code bytes of an image, so as many marks are enough for every image.
+pub const MARKS_ENOUGH: usize = 4_096;
+/// The cells of a text, its final 0 included.
+pub const TEXT_BYTES: usize = 24;
+
+/// The areas that a routine may write, ends included.
+#[derive(Clone, Copy, Debug, Default, PartialEq, Eq)]
+pub struct Limits {
+    pub grant_low: u16,
+    pub grant_high: u16,
+    pub stack_low: u16,
+    pub stack_high: u16,
+}
+
+/// The CPU's registers. PC has 24 bits; 0 means that the routine has finished.
+#[derive(Clone, Copy, Debug, Default, PartialEq, Eq)]
+pub struct Registers {
+    pub a: u8,
+    pub x: u16,
+    pub y: u16,
+    pub cc: u8,
+    pub sp: u16,
+    pub pc: u32,
+}
+
+/// Why an image, limits or lent memory were refused.
+#[derive(Clone, Copy, Debug, PartialEq, Eq)]
+#[repr(u8)]
+pub enum Refusal {
+    /// Limits break a rule.
+    Limits = 1,
+    /// Under 8 bytes, or not SLU.
+    NotSlu = 2,
+    /// The version is not 0001.
+    Version = 3,
+    /// Another rule of the layout is broken.
+    Layout = 4,
+    /// Fewer marks than code bytes.
+    Marks = 5,
+    /// A start is not reached.
+    Unreached = 6,
+    /// Depths disagree.
+    Depths = 7,
+    /// Outside the set.
+    Outside = 8,
+    /// The bytes end too soon.
+    Truncated = 9,
+    /// A jump into an instruction.
+    IntoInstruction = 10,
+    /// Depth leaves 0 to 255, or RET above 0.
+    Depth = 11,
+    /// A store that is not allowed.
+    Store = 12,
+    /// A jump leaves its routine.
+    Jump = 13,
+    /// A call that is not to an earlier routine.
+    Call = 14,
+    /// Falls off its routine.
+    FallsOff = 15,
+    /// The stack area is below the need.
+    Stack = 16,
+    /// The memory is not 32,768 bytes.
+    Memory = 17,
+}
+
+impl Refusal {
+    const ALL: [Refusal; 17] = [
+        Refusal::Limits,
+        Refusal::NotSlu,
+        Refusal::Version,
+        Refusal::Layout,
+        Refusal::Marks,
+        Refusal::Unreached,
+        Refusal::Depths,
+        Refusal::Outside,
+        Refusal::Truncated,
+        Refusal::IntoInstruction,
+        Refusal::Depth,
+        Refusal::Store,
+        Refusal::Jump,
+        Refusal::Call,
+        Refusal::FallsOff,
+        Refusal::Stack,
+        Refusal::Memory,
+    ];
+
+    /// The paper's number, 1 to 17.
+    pub fn number(self) -> u8 {
+        self as u8
+    }
+
+    /// The refusal of a number.
+    pub fn from_number(number: u8) -> Option<Refusal> {
+        Refusal::ALL.into_iter().find(|refusal| refusal.number() == number)
+    }
+}
+
+/// Why a step was not made. A trap changes nothing.
+#[derive(Clone, Copy, Debug, PartialEq, Eq)]
+#[repr(u8)]
+pub enum Trap {
+    /// SP is not from stack low - 1 to stack high.
+    Sp = 21,
+    /// PC is not in the code, or the bytes run out.
+    Pc = 22,
+    /// Outside the set.
+    Outside = 23,
+    /// SP would leave its range.
+    Stack = 24,
+    /// A store outside the grant and the stack in use.
+    Store = 25,
+}
+
+impl Trap {
+    const ALL: [Trap; 5] = [Trap::Sp, Trap::Pc, Trap::Outside, Trap::Stack, Trap::Store];
+
+    /// The paper's number, 21 to 25.
+    pub fn number(self) -> u8 {
+        self as u8
+    }
+
+    /// The trap of a number.
+    pub fn from_number(number: u8) -> Option<Trap> {
+        Trap::ALL.into_iter().find(|trap| trap.number() == number)
+    }
+}
+
+/// What a check says of an image that it accepts.
+#[derive(Clone, Copy, Debug, PartialEq, Eq)]
+pub struct Accepted {
+    /// The stack bytes that the routine needs.
+    pub need: u16,
+    /// The number of instruction starts.
+    pub count: u16,
+}
+
+/// What a check says of an image that it refuses.
+#[derive(Clone, Copy, Debug, PartialEq, Eq)]
+pub struct Refused {
+    pub refusal: Refusal,
+    /// From the first code byte; 0 for all but 6 to 15.
+    pub offset: u16,
+}
+
+impl From<Refusal> for Refused {
+    fn from(refusal: Refusal) -> Refused {
+        Refused { refusal, offset: 0 }
+    }
+}
+
+/// A step's answer.
+#[derive(Clone, Copy, Debug, PartialEq, Eq)]
+pub enum Step {
+    Made,
+    /// It began at PC 0, and changed nothing.
+    Finished,
+    Trapped(Trap),
+}
+
+/// How a run ended.
+#[derive(Clone, Copy, Debug, PartialEq, Eq)]
+pub enum Ending {
+    Finished,
+    /// The budget is used up and PC is not 0.
+    Spent,
+    Trapped(Trap),
+}
+
+/// A run's answer.
+#[derive(Clone, Copy, Debug, PartialEq, Eq)]
+pub struct Run {
+    pub ending: Ending,
+    /// The steps made, the trapping one not counted.
+    pub steps: u32,
+}
+
+/// An instruction's length and text.
+#[derive(Clone, Copy, Debug, PartialEq, Eq)]
+pub struct Decoded {
+    pub length: u32,
+    pub text: Text,
+}
+
+/// A short ASCII text with zeros after it.
+#[derive(Clone, Copy, PartialEq, Eq)]
+pub struct Text(pub [u8; TEXT_BYTES]);
+
+impl Text {
+    pub fn as_str(&self) -> &str {
+        let length = self.0.iter().position(|&byte| byte == 0).unwrap_or(TEXT_BYTES);
+        std::str::from_utf8(&self.0[..length]).unwrap_or("")
+    }
+}
+
+impl std::fmt::Debug for Text {
+    fn fmt(&self, formatter: &mut std::fmt::Formatter<'_>) -> std::fmt::Result {
+        write!(formatter, "{:?}", self.as_str())
+    }
+}
+
+impl std::fmt::Display for Text {
+    fn fmt(&self, formatter: &mut std::fmt::Formatter<'_>) -> std::fmt::Result {
+        formatter.write_str(self.as_str())
+    }
+}

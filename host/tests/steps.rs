@@ -1,0 +1,67 @@
+//! The twin's steps against those that were recorded from a simulator: 32 for each of the 260 op-codes.
+
+use gate_host::{twin, Limits, Registers, Step, MEMORY_BYTES};
+use std::env;
+use std::fs;
+use std::path::PathBuf;
+
+const RECORD: usize = 46;
+const LIMITS: Limits = Limits { grant_low: 0x0000, grant_high: 0x14FF, stack_low: 0x1600, stack_high: 0x17FF };
+
+fn word(bytes: &[u8]) -> u16 {
+    u16::from_be_bytes([bytes[0], bytes[1]])
+}
+
+/// A, X, Y, CC, SP and PC, as a record has them.
+fn registers(bytes: &[u8]) -> Registers {
+    Registers {
+        a: bytes[0],
+        x: word(&bytes[1..]),
+        y: word(&bytes[3..]),
+        cc: bytes[5],
+        sp: word(&bytes[6..]),
+        pc: u32::from_be_bytes([0, bytes[8], bytes[9], bytes[10]]),
+    }
+}
+
+/// The cells that a record has: an address and a byte each, address FFFF where there is none.
+fn cells(bytes: &[u8]) -> impl Iterator<Item = (usize, u8)> + '_ {
+    bytes.chunks_exact(3).map(|cell| (usize::from(word(cell)), cell[2])).filter(|&(address, _)| address != 0xFFFF)
+}
+
+fn image_of(record: &[u8]) -> Vec<u8> {
+    let length = record[0];
+    let mut image = b"SLU\x00\x01".to_vec();
+    image.extend([record[15], record[16], 1, 0, length]);
+    image.extend(&record[1..1 + usize::from(length)]);
+    image
+}
+
+#[test]
+fn recorded_steps() {
+    let file = env::var_os("GATE_STEPS").map_or_else(
+        || PathBuf::from(concat!(env!("CARGO_MANIFEST_DIR"), "/../crates/recorded_steps/data/steps.bin")),
+        PathBuf::from,
+    );
+    let Ok(records) = fs::read(&file) else {
+        println!("SKIPPED: there is no {}; set GATE_STEPS to the file of recorded steps", file.display());
+        return;
+    };
+    assert_eq!(records.len(), 8_320 * RECORD);
+    for (number, record) in records.chunks_exact(RECORD).enumerate() {
+        let mut memory = vec![0; MEMORY_BYTES];
+        for (address, byte) in cells(&record[17..29]) {
+            memory[address] = byte;
+        }
+        let mut expected = memory.clone();
+        for (address, byte) in cells(&record[40..46]) {
+            expected[address] = byte;
+        }
+        let mut after = registers(&record[6..]);
+        let answer = twin::step(&image_of(record), &LIMITS, &mut memory, &mut after);
+        assert_eq!(answer, Ok(Step::Made), "record {number}: {record:02X?}");
+        assert_eq!(after, registers(&record[29..]), "record {number}: {record:02X?}");
+        assert!(memory == expected, "memory after record {number}: {record:02X?}");
+    }
+    println!("{} recorded steps: no difference", records.len() / RECORD);
+}
