@@ -1,6 +1,6 @@
 -- Numbers as they are printed.
 use mathlib.Core.Path.{_≡_, refl}
-use mathlib.Core.List.{List, [], _∷_, map}
+use mathlib.Core.List.{[], _∷_, map}
 use Rattle.numbers.specs.Ascii.{ascii}
 use Rattle.listing.specs.Decimal.{leading, decimal}
 

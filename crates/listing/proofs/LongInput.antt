@@ -7,7 +7,7 @@ use native.Mathlib.Nat.{zero-add, suc-add}
 use native.Mathlib.Omega.{arith}
 use borrow.Author.Tests.{ne-eqb}
 use lib.Dec.{eqb, ltb}
-use lib.ListN.{length, getD, take, drop, length-drop}
+use lib.ListN.{length, take, drop, length-drop}
 use lib.Seq.{length-take-le, take-take, take-nil, getD-take}
 use Rattle.numbers.specs.Checks.{first, under, differ}
 use Rattle.numbers.specs.Folds.{firstIn}
@@ -100,9 +100,16 @@ refusal-front image limits h = rw (mark-front image h, version-front image)
 limits-front : (input : List ℕ) → limitsOf (take 4177 input) ≡ limitsOf input
 unfolding limitsOf wordAt
 limits-front input =
-    rw (getD-take 4177 input 0 0 (omega arith), getD-take 4177 input 1 0 (omega arith), getD-take 4177 input 2 0 (omega arith),
-    getD-take 4177 input 3 0 (omega arith), getD-take 4177 input 4 0 (omega arith), getD-take 4177 input 5 0 (omega arith),
-    getD-take 4177 input 6 0 (omega arith), getD-take 4177 input 7 0 (omega arith))
+    rw (
+      getD-take 4177 input 0 0 (omega arith),
+      getD-take 4177 input 1 0 (omega arith),
+      getD-take 4177 input 2 0 (omega arith),
+      getD-take 4177 input 3 0 (omega arith),
+      getD-take 4177 input 4 0 (omega arith),
+      getD-take 4177 input 5 0 (omega arith),
+      getD-take 4177 input 6 0 (omega arith),
+      getD-take 4177 input 7 0 (omega arith),
+    )
 
 drop-take : (n m : ℕ) (l : List ℕ) → drop n (take (n + m) l) ≡ take m (drop n l)
 drop-take zero m l = rw (zero-add m)

@@ -35,9 +35,11 @@ loop-again c =
     let c10 = c6 .before .before .before .before in
     let image = now (c10 .args .image) in
     let marks = now (c10 .args .marks) in
-    let offset = c6 .loop .offset in
-    (omega arith, rw (lines-next (lineAt image marks) offset) (c6 .loop .inv .1 then c2 .push-line .ensures),
-    omega (arith, line-size image marks offset))
+    let offset = c6 .loop .offset in (
+      omega arith,
+      rw (lines-next (lineAt image marks) offset) (c6 .loop .inv .1 then c2 .push-line .ensures),
+      omega (arith, line-size image marks offset),
+    )
 
 returns : tie.Need-returns Inv-loop μ-loop
 returns c =

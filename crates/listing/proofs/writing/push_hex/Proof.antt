@@ -16,9 +16,9 @@ pub push-hex-spec : {M : Type 1} → statement M
 push-hex-spec =
     tie.close
     (tie.spec
+    (λ c κs. tt)
     (λ c κs. search needs)
-    (λ c κs. search needs)
-    (λ c κs. search needs)
+    (λ c κs. tt)
     (λ c κs. search needs)
     (λ c. search needs)
     returns)
