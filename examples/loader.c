@@ -43,7 +43,7 @@ static void list(const uint8_t *image, size_t image_length)
         const uint16_t mark = marks[at - code];
         const uint16_t address = (uint16_t)(base + (at - code));
         uint8_t text[GATE_TEXT_BYTES];
-        uint32_t length[1];
+        size_t length[1];
         if (mark != 0 && gate_decode(image + at, image_length - at, address, text, length) == GATE_OK)
             printf("  %04X %u %s\n", (unsigned)address, (unsigned)mark - 1, (const char *)text);
     }

@@ -94,7 +94,7 @@ uint8_t gate_run(const uint8_t *image, size_t image_length,
  * length: the instruction's bytes, 0 where there is none. text: the instruction as it stands at address, in the manual's assembler notation, and 0 in
  * every cell after it; all 0 where there is none. */
 uint8_t gate_decode(const uint8_t *bytes, size_t bytes_length, uint16_t address,
-                    uint8_t text[GATE_TEXT_BYTES], uint32_t length[1]);
+                    uint8_t text[GATE_TEXT_BYTES], size_t length[1]);
 
 #ifdef __cplusplus
 }

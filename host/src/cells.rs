@@ -73,7 +73,7 @@ mod c {
             bytes_length: usize,
             address: u16,
             text: *mut [u8; TEXT_BYTES],
-            length: *mut [u32; 1],
+            length: *mut [usize; 1],
         ) -> u8;
     }
 }
@@ -166,7 +166,7 @@ pub fn run(
     }
 }
 
-pub fn decode(bytes: &[u8], address: u16, text: &mut [u8; TEXT_BYTES], length: &mut [u32; 1]) -> u8 {
+pub fn decode(bytes: &[u8], address: u16, text: &mut [u8; TEXT_BYTES], length: &mut [usize; 1]) -> u8 {
     // SAFETY: as for `check`: every pointer and length come from one reference, and those written from `&mut`, which overlap nothing.
     unsafe { c::gate_decode(bytes.as_ptr(), bytes.len(), address, text, length) }
 }

@@ -181,7 +181,7 @@ pub struct Run {
 /// An instruction's length and text.
 #[derive(Clone, Copy, Debug, PartialEq, Eq)]
 pub struct Decoded {
-    pub length: u32,
+    pub length: usize,
     pub text: Text,
 }
 

@@ -249,10 +249,10 @@ pub fn run(
 
 pub fn decode(bytes: &[u8], address: u16, tally: &mut Tally) -> Compared<()> {
     let mut text = [BLANK; TEXT_BYTES];
-    let mut length = [u32::from(BLANK)];
+    let mut length = [usize::from(BLANK)];
     let number = cells::decode(bytes, address, &mut text, &mut length);
     let expected = match twin::decode(bytes) {
-        Ok((instruction, length)) => (cells::OK, length as u32, twin::text(instruction, length, address).0),
+        Ok((instruction, length)) => (cells::OK, length, twin::text(instruction, length, address).0),
         Err(twin::Undecodable::Outside) => (8, 0, [0; TEXT_BYTES]),
         Err(twin::Undecodable::Truncated) => (9, 0, [0; TEXT_BYTES]),
     };
