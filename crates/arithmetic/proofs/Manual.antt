@@ -1,10 +1,10 @@
 -- The formulas of the manual's pages for C and H, and for the two sides of V, are the carries and the borrows.
 use Prim.Native.Nat.{ℕ, _+_, _-_, _%_, _^_, _≤_, _<_}
 use mathlib.Core.Path.{_≡_, refl, sym, ap, _∙_}
-use mathlib.Core.Bool.{Bool, true, false, not, _&&_, _||_, cond, xor, and-false}
+use mathlib.Core.Bool.{Bool, true, false, not, xor, and-false}
 use native.Mathlib.Omega.{arith}
 use native.Mathlib.Nat.{mod-eq-of-lt, mod-eq-sub-mod, mod-lt, mod-add-mod, add-mod-right}
-use lib.Dec.{leb, ltb, eqb}
+use lib.Dec.{leb, eqb}
 use lib.Pow.{pow-pos, pow-add, mod-mod-pow}
 use borrow.Author.Tests.{le-leb, lt-leb, lt-ltb, le-ltb}
 use Rattle.numbers.specs.Bits.{flag, bit}
@@ -16,7 +16,7 @@ use Rattle.arithmetic.specs.Accumulator.{subtracted}
 use Rattle.arithmetic.specs.Modify.{NEG}
 use Rattle.arithmetic.proofs.BitLaws.{flag-le, bit-low}
 use Rattle.arithmetic.proofs.Orders.{by-order}
-use Rattle.arithmetic.proofs.Overflow.{whole, top}
+use Rattle.arithmetic.proofs.Overflow.{top}
 
 -- bit n by the number that bits n to 0 make
 bit-by-low : (n a : ℕ) → isSet n a ≡ leb (2 ^ n) (a % 2 ^ (n + 1))

@@ -5,7 +5,7 @@ use mathlib.Core.Path.{_≡_, refl, sym, ap, _∙_}
 use mathlib.Core.Bool.{Bool, true, false, not, _&&_, cond, xor, and-true}
 use native.Mathlib.Omega.{arith}
 use native.Mathlib.Nat.{mod-eq-of-lt, mod-eq-sub-mod, zero-add, div-eq-of-lt, div-eq-of-lt-le, add-zero}
-use lib.Dec.{leb, ltb, eqb}
+use lib.Dec.{leb, ltb}
 use lib.IntN.{ℤ, pos, negsuc, negℤ, subℕ, _+ℤ_, _-ℤ_}
 use lib.Signed.{leZ, ltZ}
 use lib.Pow.{pow-pos, pow-add}
@@ -137,7 +137,7 @@ module _ (h a m f : ℕ) (ha : a < h + h) (hm : m < h + h) (hf : f ≤ 1) where
 
 -- the width's powers by its half, and the top bit
 module _ (w : ℕ) (wide : 1 ≤ w) where
-  pub whole : 2 ^ w ≡ 2 ^ (w - 1) + 2 ^ (w - 1)
+  whole : 2 ^ w ≡ 2 ^ (w - 1) + 2 ^ (w - 1)
   whole =
       let up : w ≡ w - 1 + 1 = omega arith in
       ap (λ n. 2 ^ n) up ∙ pow-add 2 (w - 1) 1 ∙ omega arith

@@ -1,6 +1,6 @@
 -- What a step changes: one that is not made changes nothing, and one that is made changes what its effect says.
 use Prim.Native.Nat.{ℕ, _+_, _-_, _%_, _≤_, _<_}
-use mathlib.Core.Path.{_≡_, refl, sym, ap, _∙_}
+use mathlib.Core.Path.{_≡_, refl, sym, _∙_}
 use mathlib.Core.Bool.{Bool, true, false, cond, true≢false}
 use mathlib.Core.List.{List, [], _∷_}
 use mathlib.Core.Logic.{_⊎_, inl, inr, ⊎-elim}
@@ -9,7 +9,7 @@ use native.Mathlib.Nat.{mod-eq-of-lt}
 use lib.Dec.{eqb}
 use lib.ListN.{getD, length, drop}
 use lib.Seq.{sets}
-use borrow.Author.Tests.{eqb-true, eqb-false, ltb-true}
+use borrow.Author.Tests.{eqb-true, ltb-true}
 use Rattle.numbers.specs.Checks.{first}
 use Rattle.numbers.specs.Words.{high, low}
 use Rattle.numbers.proofs.Checking.{first-zero, under-zero, differ-zero, unless-zero}
@@ -36,7 +36,6 @@ use Rattle.machine.specs.Computing.{computed}
 use Rattle.machine.specs.Step.{Result, result, spTrap, pcTrap, moveTrap, callTrap, effectTrap, calls, spAfter, pcAfter, bytesOfWidth, memoryAfter, made, decodedStep, stepValid, stepRefusal, stepped}
 use Rattle.machine.specs.Changes.{Covers, Names, GoesTo, Changes, MadeStep}
 use Rattle.machine.specs.declared.Registers.{Registers}
-use Rattle.machine.specs.declared.StepAnswer.{StepAnswer}
 use Rattle.machine.specs.declared.StepAnswer.the-variants.{Made, Finished, Trap, Refused}
 use Rattle.machine.proofs.Stores.{sets-other, word-stored, read-memory, bytes-length, size-kept}
 
