@@ -5,10 +5,12 @@ use disassembly::Written;
 use libc::STDIN_FILENO;
 use libc::STDOUT_FILENO;
 
-// The largest input that is not refused has 8 bytes of limits, a header of 8, 32 lengths of 2 and 4,096 code bytes. One byte more is enough to
-// see that an input is larger: 1, 2 and 3 are decided by its first 13 bytes, and 4 is what remains, since no layout rule lets the file end there.
+// One byte more than the largest input that is not refused: 8 bytes of limits, a header of 8, 32 lengths of 2 and 4,096 code bytes. A longer
+// input is refused with 1, 2 or 3, which its first 13 bytes decide, or else with 4, since the file does not end with the code: its first 4,177
+// bytes print the same (`long-input` in the crate `listing`).
 const INPUT: usize = 4177;
 
+// One for each code byte of any image, so that 5 is never given.
 const MARKS: usize = 4096;
 
 enum Input {
@@ -45,6 +47,7 @@ fn read_input(buffer: &mut [u8]) -> Input
     Input::Bytes(n)
 }
 
+// Prints the listing of an input. The buffer has room for any, so it is not refused.
 fn print_listing(input: &[u8]) {
     let mut marks = [0u16; MARKS];
     let mut buffer = [0u8; listing::LONGEST];

@@ -3,3 +3,4 @@ pub mod Digits
 pub mod LongInput
 pub mod Placing
 pub mod Sizes
+pub mod Texts

@@ -26,7 +26,7 @@ abbrev pub verdictLine : Verdict → List ℕ
 verdictLine (Accepted need count) = ascii "accepted " ++ decimal need ++ ascii " " ++ decimal count ++ lineFeed
 verdictLine (Refused number offset) = ascii "refused " ++ decimal number ++ ascii " " ++ decimal offset ++ lineFeed
 
--- the text of what decodes at an address; at a start that is an instruction
+-- the text of what decodes at an address; at a start of an accepted image that is an instruction, which is a theorem
 abbrev pub textAt : ℕ → Decoded → List ℕ
 textAt address (Found i n) = text address i
 textAt address Outside = []
