@@ -1,0 +1,20 @@
+-- A case as bytes: limits, the size of memory, registers at 10, a step or a run, and the budget at 22.
+use Prim.Native.Nat.{ℕ, _+_, _*_}
+use mathlib.Core.List.{List}
+use lib.ListN.{take, drop}
+use Rattle.numbers.specs.Words.{wordAt}
+use Rattle.image.specs.Image.{limitsOf}
+use Rattle.machine.specs.Step.{stepped}
+use Rattle.machine.specs.Run.{ran}
+use Rattle.machine.specs.declared.Stepped.{Stepped}
+use Rattle.machine.specs.declared.Ran.{Ran}
+use Rattle.vectors.specs.Bytes.{registersOf}
+
+-- the step of a case, on an image and a memory
+abbrev pub stepOf : List ℕ → List ℕ → List ℕ → Stepped × List ℕ
+stepOf bytes image memory = stepped image (limitsOf bytes) (registersOf (take 11 (drop 10 bytes))) memory
+
+-- its run
+abbrev pub runOf : List ℕ → List ℕ → List ℕ → Ran × List ℕ
+runOf bytes image memory =
+    ran (wordAt bytes 22 * 65536 + wordAt bytes 24) image (limitsOf bytes) (registersOf (take 11 (drop 10 bytes))) memory
