@@ -30,12 +30,12 @@ first-two s i h =
     ap (λ (l : List ℕ). getD s i 0 ∷ l) (next s (i + 1) (i + 2) (omega arith) h)
 
 pub byte : (s : List ℕ) (i v : ℕ) → i + 1 < length s → v ≡ pair (getD s i 0) (getD s (i + 1) 0) → v < 256
-  → spelled (drop i s) ≡ v ∷ spelled (drop (i + 2) s)
+    → spelled (drop i s) ≡ v ∷ spelled (drop (i + 2) s)
 unfolding spelled
 byte s i v h e small = ap spelled (first-two s i h) ∙ rw (← e, lt-ltb v 256 small)
 
 pub passed : (s : List ℕ) (i v : ℕ) → i + 1 < length s → v ≡ pair (getD s i 0) (getD s (i + 1) 0) → 256 ≤ v
-  → spelled (drop i s) ≡ spelled (drop (i + 1) s)
+    → spelled (drop i s) ≡ spelled (drop (i + 1) s)
 unfolding spelled
 passed s i v h e large =
     ap spelled (first-two s i h) ∙ rw (← e, le-ltb v 256 large) (sym (ap spelled (next s (i + 1) (i + 2) (omega arith) h)))
@@ -54,13 +54,13 @@ pub begun : (text bytes : List ℕ) → Whole text bytes (take (length bytes) (s
 begun text bytes = let k : length bytes - 0 ≡ length bytes = omega arith in rw k
 
 pub stored : (text bytes after whole : List ℕ) (size n i v : ℕ) → i + 1 < length text → v ≡ pair (getD text i 0) (getD text (i + 1) 0) → v < 256
-  → n < length bytes → length bytes ≡ size → after ≡ set bytes n v → Whole text bytes whole size n i → Whole text after whole size (n + 1) (i + 2)
+    → n < length bytes → length bytes ≡ size → after ≡ set bytes n v → Whole text bytes whole size n i → Whole text after whole size (n + 1) (i + 2)
 stored text bytes after whole size n i v h e small room same ea known =
     let k : size - n ≡ suc (size - suc n) = omega arith in
     rw (ea, add-one n, take-suc-set bytes n v room, append-assoc) (rw (byte text i v h e small, k) at known)
 
 pub skipped : (text bytes whole : List ℕ) (size n i v : ℕ) → i + 1 < length text → v ≡ pair (getD text i 0) (getD text (i + 1) 0) → 256 ≤ v
-  → Whole text bytes whole size n i → Whole text bytes whole size n (i + 1)
+    → Whole text bytes whole size n i → Whole text bytes whole size n (i + 1)
 skipped text bytes whole size n i v h e large known = rw (passed text i v h e large) at known
 
 pub full : (text bytes whole : List ℕ) (size n i : ℕ) → n ≡ size → Whole text bytes whole size n i → take n bytes ≡ whole

@@ -78,12 +78,7 @@ fn step_case(case: &[u8], image: &[u8], memory: &mut [u8]) -> Registers
     ensures { λ r. ⌜ r ≡ stepOf (now (case .entry)) (now (image .entry)) (now (memory .entry)) .0 .registers ⌝ }
     ensures { λ r. ⌜ now (memory .exit) ≡ stepOf (now (case .entry)) (now (image .entry)) (now (memory .entry)) .1 ⌝ }
 {
-    let stepped = machine::step(
-        image,
-        limits_of(case),
-        registers_of(&case[10..21]),
-        memory,
-    );
+    let stepped = machine::step(image, limits_of(case), registers_of(&case[10..21]), memory);
     let answer = stepped.answer;
     print_step_answer(answer);
     stepped.registers

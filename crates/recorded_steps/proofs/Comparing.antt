@@ -20,7 +20,7 @@ pub never : {X : Type 0} → false ≡ true → X
 never e = absurd (subst T (sym e) tt)
 
 equal : (a x y cc sp pc b z w dd tp qc : ℕ) → a ≡ b → x ≡ z → y ≡ w → cc ≡ dd → sp ≡ tp → pc ≡ qc
-  → _≡_ {A = Registers} (record { a = a; x = x; y = y; cc = cc; sp = sp; pc = pc }) (record { a = b; x = z; y = w; cc = dd; sp = tp; pc = qc })
+    → _≡_ {A = Registers} (record { a = a; x = x; y = y; cc = cc; sp = sp; pc = pc }) (record { a = b; x = z; y = w; cc = dd; sp = tp; pc = qc })
 equal a x y cc sp pc b z w dd tp qc e₁ e₂ e₃ e₄ e₅ e₆ = rw (e₁, e₂, e₃, e₄, e₅, e₆)
 
 pub registers-equal : (r s : Registers) → r .a ≡ s .a → r .x ≡ s .x → r .y ≡ s .y → r .cc ≡ s .cc → r .sp ≡ s .sp → eqb (r .pc) (s .pc) ≡ true → r ≡ s
@@ -31,14 +31,14 @@ same-result : (p q : StepAnswer) (r s : Registers) (m n : List ℕ) → p ≡ q 
 same-result p q r s m n e₁ e₂ e₃ = rw (e₁, e₂, e₃)
 
 pub step-goes : (image : List ℕ) (limits : Limits) (before : Registers) (memory : List ℕ) (r : Stepped) (m : List ℕ) (after : Registers) (expected : List ℕ)
-  → limits ≡ limitsOf (0x00 ∷ 0x00 ∷ 0x14 ∷ 0xFF ∷ 0x16 ∷ 0x00 ∷ 0x17 ∷ 0xFF ∷ []) → stepped image limits before memory ≡ (r, m)
-  → r .answer ≡ Made → r .registers ≡ after → m ≡ expected → Goes image before memory after expected
+    → limits ≡ limitsOf (0x00 ∷ 0x00 ∷ 0x14 ∷ 0xFF ∷ 0x16 ∷ 0x00 ∷ 0x17 ∷ 0xFF ∷ []) → stepped image limits before memory ≡ (r, m)
+    → r .answer ≡ Made → r .registers ≡ after → m ≡ expected → Goes image before memory after expected
 unfolding Goes
 step-goes image limits before memory r m after expected el es ea er em =
     (rw el at es) ∙ same-result (r .answer) Made (r .registers) after m expected ea er em
 
 pub record-goes : (s image memory expected m n : List ℕ) (end : ℕ) (before after : Registers) → end ≡ 10 + getD s 0 0 → image ≡ longestImage s
-  → before ≡ registersOf (take 11 (drop 6 s)) → after ≡ registersOf (take 11 (drop 29 s)) → m ≡ cellsBefore s memory → n ≡ cellsAfter s expected
-  → Goes (take end image) before m after n → AsRecorded s memory expected
+    → before ≡ registersOf (take 11 (drop 6 s)) → after ≡ registersOf (take 11 (drop 29 s)) → m ≡ cellsBefore s memory → n ≡ cellsAfter s expected
+    → Goes (take end image) before m after n → AsRecorded s memory expected
 unfolding AsRecorded imageOf
 record-goes s image memory expected m n end before after e₁ e₂ e₃ e₄ e₅ e₆ g = rw (e₁, e₂, e₃, e₄, e₅, e₆) at g

@@ -34,7 +34,7 @@ pub same-length : (m after m₀ : List ℕ) (a b : ℕ) → after ≡ set m a b 
 same-length m after m₀ a b e h = ap length e ∙ length-set m a b ∙ h
 
 pub turn : (m after whole s : List ℕ) (at a b : ℕ) → at + 2 < length s → a ≡ wordAt s at → b ≡ getD s (at + 2) 0 → after ≡ set m a b
-  → withCells m (drop at s) ≡ whole → withCells after (drop (at + 3) s) ≡ whole
+    → withCells m (drop at s) ≡ whole → withCells after (drop (at + 3) s) ≡ whole
 turn m after whole s at a b h ea eb e known = rw (e, ea, eb) (sym (put-first m s at h) ∙ known)
 
 pub end : (m whole s : List ℕ) (at : ℕ) → length s ≤ at + 2 → withCells m (drop at s) ≡ whole → m ≡ whole

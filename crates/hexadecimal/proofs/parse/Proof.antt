@@ -36,8 +36,7 @@ loop-again c =
     let c6 = c2 .before .before .before .before in
     let v = c6 .loop in
     let a = c6 .before .before .before .args in
-    let room : v .n < length (v .bytes) = omega arith in
-    (
+    let room : v .n < length (v .bytes) = omega arith in (
       simp length-set (omega arith),
       omega arith,
       simp length-set (v .inv .2),
@@ -49,8 +48,7 @@ loop-again-2 : tie.Need-loop-again-2 Inv-loop μ-loop
 loop-again-2 c =
     let c4 = c .before .before .before .before in
     let v = c4 .before .loop in
-    let a = c4 .before .before .before .before .args in
-    (
+    let a = c4 .before .before .before .before .args in (
       v .inv .0,
       omega arith,
       v .inv .2,
