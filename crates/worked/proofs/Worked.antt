@@ -29,7 +29,7 @@ use Rattle.worked.specs.Cases.{outcome, expected, cases}
 pub all-hold : map outcome cases ≡ map expected cases
 unfolding xor Bits.bit Checks.first Checks.both Checks.under Checks.unless Checks.differ Folds.firstIn Folds.total Lists.same Words.word Words.high
     Words.low Words.wordAt CC.withBit Flags.withNZ Sums.sum Sums.carryOut Sums.borrowOut Sums.difference Sums.sumOverflow Sums.afterSum
-    Accumulator.added Accumulator.loaded Modify.NEG WordResults.MUL decoded relative granted Image.versionOf Image.baseOf Image.countOf
+    Accumulator.added Accumulator.resultNZ Modify.NEG WordResults.MUL decoded relative granted Image.versionOf Image.baseOf Image.countOf
     Image.lengthsOf Image.lengthAt Image.codeAt Image.codeOf Image.sizeOf Image.layoutOf Image.startOf Image.endOf Image.mainOf
     Validation.areaCheck Validation.apartCheck Validation.limitsCheck Validation.markCheck Validation.versionCheck Validation.lengthCheck
     Validation.lengthsCheck Validation.layoutCheck Validation.refusal Validation.validated Depth.popped Depth.pushed Depth.after
