@@ -3,55 +3,13 @@
 ghost use mathlib.Core.Path.{_≡_};
 ghost use Prim.Native.Nat.{_≤_};
 ghost use lib.ListN.{length};
+use bytes::scan::find;
 use checker::Verdict;
 use checker::check;
+use hexadecimal::parse;
 use image::limits_of;
 use libc::STDIN_FILENO;
 use libc::STDOUT_FILENO;
-
-// The value of a hexadecimal digit, 16 for any other character.
-fn digit(c: u8) -> u8 {
-    match c {
-        b'0'..=b'9' => c - b'0',
-        b'A'..=b'F' => c - b'A' + 10,
-        _ => 16,
-    }
-}
-
-// The place of a character from an index on, or the end.
-fn find(text: &[u8], from: usize, c: u8) -> usize
-    requires { ⌜ from ≤ length (now text) ⌝ }
-    ensures { λ r. ⌜ (from ≤ r) × (r ≤ length (now (text .entry))) ⌝ }
-{
-    let mut i = from;
-    while i < text.len() {
-        if text[i] == c {
-            return i;
-        }
-        i += 1;
-    }
-    i
-}
-
-// The bytes that a text's digits spell, two to a byte; other characters are skipped.
-fn parse(text: &[u8], bytes: &mut [u8]) -> usize
-    ensures { λ r. ⌜ r ≤ length (now (bytes .exit)) ⌝ }
-{
-    let mut n = 0;
-    let mut i = 0;
-    while i + 1 < text.len() {
-        let high = digit(text[i]);
-        let low = digit(text[i + 1]);
-        if high < 16 && low < 16 && n < bytes.len() {
-            bytes[n] = high * 16 + low;
-            n += 1;
-            i += 2;
-        } else {
-            i += 1;
-        }
-    }
-    n
-}
 
 fn print_marks(marks: &[u16]) {
     let mut i = 0;
@@ -120,8 +78,8 @@ fn case(text: &[u8]) {
 fn cases(text: &[u8]) {
     let mut at = 0;
     while at < text.len() {
-        let colon = find(text, at, b':');
-        let end = find(text, colon, b'\n');
+        let colon = find(text, at, text.len(), b':');
+        let end = find(text, colon, text.len(), b'\n');
         io::write_all(STDOUT_FILENO, &text[at..colon]);
         io::write_all(STDOUT_FILENO, b": ");
         case(&text[colon..end]);

@@ -22,7 +22,7 @@ case-spec =
     (λ c. search needs)
     (λ c κs. search needs)
     (λ c. search needs)
-    (λ c. sym (length-take-le _ _ (c .before .before .before .parse .ensures)))
+    (λ c. sym (length-take-le _ _ (c .before .before .before .parse .ensures .0)))
     (λ c. search needs)
     slice-aggregate-run-2
     (λ c κs. search needs)
