@@ -3,4 +3,5 @@ pub mod Stores
 pub mod StepLaws
 pub mod StepEffect
 pub mod RunLaws
+pub mod OnlyStep
 pub mod RunEnds

@@ -9,6 +9,7 @@ use Rattle.machine.specs.Step.{stepped, stepRefusal}
 use Rattle.machine.specs.declared.Registers.{Registers}
 use Rattle.machine.specs.declared.StepAnswer.{StepAnswer}
 use Rattle.machine.specs.declared.StepAnswer.the-variants as Step
+use Rattle.machine.specs.declared.Stepped.{Stepped}
 use Rattle.machine.specs.declared.RunAnswer.{RunAnswer}
 use Rattle.machine.specs.declared.RunAnswer.the-variants.{Finished, Spent, Trap, Refused}
 use Rattle.machine.specs.declared.Ran.{Ran}
@@ -38,6 +39,16 @@ ran zero image limits regs memory = noStepsLeft image limits regs memory
 ran (suc budget) image limits regs memory =
     let s = stepped image limits regs memory in
     afterStep (s .0 .answer) regs memory (ran budget image limits (s .0 .registers) (s .1))
+
+-- the step that a run of one step tried: made where it counts one
+abbrev pub triedAnswer : RunAnswer → StepAnswer
+triedAnswer Finished = Step.Finished
+triedAnswer Spent = Step.Made
+triedAnswer (Trap number) = Step.Trap number
+triedAnswer (Refused number) = Step.Refused number
+
+abbrev pub onlyStep : Ran → Stepped
+onlyStep r = record { answer = cond (eqb (r .steps) 0) (triedAnswer (r .answer)) Step.Made; registers = r .registers }
 
 -- document 01's number of an answer: 0 where nothing was refused or trapped
 abbrev pub runNumber : RunAnswer → ℕ

@@ -11,7 +11,7 @@ mod traps;
 
 ghost use mathlib.Core.Path.{_≡_};
 ghost use Rattle.machine.specs.Step.{stepped};
-ghost use Rattle.machine.specs.Run.{ran};
+ghost use Rattle.machine.specs.Run.{ran, onlyStep};
 use image::Limits;
 use image::Validated;
 
@@ -61,25 +61,6 @@ pub struct Ran {
     pub steps: u32,
 }
 
-// One step, from any registers and memory.
-pub fn step(image: &[u8], limits: Limits, registers: Registers, memory: &mut [u8]) -> Stepped
-    ensures { λ r. ⌜ stepped (now (image .entry)) limits registers (now (memory .entry)) ≡ (r, now (memory .exit)) ⌝ }
-{
-    let validated = stepping::validate(image, limits, memory);
-    match validated {
-        Validated::Refused(number) => registers.answer(StepAnswer::Refused(number)),
-        Validated::Valid(layout) => registers.step(
-            image,
-            layout,
-            limits,
-            memory,
-            &stm8::plain_lengths(),
-            &stm8::after_72_lengths(),
-            &stm8::after_90_lengths(),
-        ),
-    }
-}
-
 // Steps until the routine finishes, traps or the steps are used up.
 pub fn run(
     image: &[u8],
@@ -95,4 +76,28 @@ pub fn run(
         Validated::Refused(number) => registers.ended(RunAnswer::Refused(number)),
         Validated::Valid(layout) => registers.run(image, layout, limits, memory, budget),
     }
+}
+
+// The step that a run of one step tried.
+fn only_step(ran: Ran) -> Stepped
+    ensures { λ r. ⌜ r ≡ onlyStep ran ⌝ }
+{
+    let registers = ran.registers;
+    let answer = ran.answer;
+    if ran.steps != 0 {
+        return registers.answer(StepAnswer::Made);
+    }
+    match answer {
+        RunAnswer::Finished => registers.answer(StepAnswer::Finished),
+        RunAnswer::Spent => registers.answer(StepAnswer::Made),
+        RunAnswer::Trap(number) => registers.answer(StepAnswer::Trap(number)),
+        RunAnswer::Refused(number) => registers.answer(StepAnswer::Refused(number)),
+    }
+}
+
+// One step, from any registers and memory: a run of one, so that the run's loop alone holds the code of a step.
+pub fn step(image: &[u8], limits: Limits, registers: Registers, memory: &mut [u8]) -> Stepped
+    ensures { λ r. ⌜ stepped (now (image .entry)) limits registers (now (memory .entry)) ≡ (r, now (memory .exit)) ⌝ }
+{
+    only_step(run(image, limits, registers, memory, 1))
 }
