@@ -4,4 +4,3 @@ pub mod Manual
 pub mod Orders
 pub mod Overflow
 pub mod SumLaws
-pub mod Worked

@@ -1,6 +1,6 @@
 // Decoding: the instruction at the front of a slice, an op-code outside the set, or bytes that end too soon.
 ghost use mathlib.Core.Path.{_≡_};
-ghost use Rattle.stm8.specs.Decoding.{decoded, decodedBy, tables};
+ghost use Rattle.stm8.specs.Decoding.{decoded, decodedBy, tables, decodingNumber};
 
 mod columns;
 mod operations;
@@ -16,17 +16,17 @@ use stm8::Decoded;
 pub fn decode_by(
     bytes: &[u8],
     plain: &[u8; 256],
-    after72: &[u8; 256],
-    after90: &[u8; 256],
+    after_72: &[u8; 256],
+    after_90: &[u8; 256],
 ) -> Decoded
-    ensures { λ r. ⌜ r ≡ decodedBy (tables (now (plain .entry)) (now (after72 .entry)) (now (after90 .entry))) (now (bytes .entry)) ⌝ }
+    ensures { λ r. ⌜ r ≡ decodedBy (tables (now (plain .entry)) (now (after_72 .entry)) (now (after_90 .entry))) (now (bytes .entry)) ⌝ }
 {
     let first = byte_at(bytes, 0);
     if first == 0x72 {
-        return pages::after_72(bytes, after72);
+        return pages::after_72(bytes, after_72);
     }
     if first == 0x90 {
-        return pages::after_90(bytes, after90);
+        return pages::after_90(bytes, after_90);
     }
     pages::plain(bytes, plain)
 }
@@ -43,4 +43,15 @@ pub fn decode(bytes: &[u8]) -> Decoded
         return pages::after_90(bytes, &stm8::after_90_lengths());
     }
     pages::plain(bytes, &stm8::plain_lengths())
+}
+
+// Document 01's number of an answer, 0 for an instruction.
+pub fn decoding_number(decoded: Decoded) -> u8
+    ensures { λ r. ⌜ r ≡ decodingNumber decoded ⌝ }
+{
+    match decoded {
+        Decoded::Found(_, _) => 0,
+        Decoded::Outside => 8,
+        Decoded::Truncated => 9,
+    }
 }

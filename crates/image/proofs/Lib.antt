@@ -1,3 +1,5 @@
+pub mod Granting
+pub mod Layouts
 pub mod Measuring
+pub mod RefusalNumbers
 pub mod Validity
-pub mod ValidLayout

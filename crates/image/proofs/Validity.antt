@@ -1,21 +1,21 @@
 -- An image and limits are valid exactly when document 01's rules hold of them.
 use Prim.Native.Nat.{ℕ, _<_, _≤_}
-use mathlib.Core.Path.{_≡_, refl, sym, _∙_, ap}
+use mathlib.Core.Path.{_≡_, refl, sym, _∙_}
 use mathlib.Core.Logic.{_⊎_, inl, inr, ⊎-elim, ⊎-map, _↔_}
-use mathlib.Core.Bool.{Bool, true, false, cond, true≢false}
+use mathlib.Core.Bool.{Bool, true, false, cond}
 use mathlib.Core.List.{List}
 use native.Mathlib.Omega.{arith}
 use lib.Dec.{eqb, ltb}
 use lib.ListN.{length, take}
-use borrow.Author.Tests.{eqb-true, ltb-true, ltb-false, lt-ltb}
+use borrow.Author.Tests.{eqb-true, eqb-false, ltb-true, ltb-false, lt-ltb}
 use Rattle.numbers.specs.Ascii.{ascii}
-use Rattle.numbers.specs.Checks.{both, unless, differ}
+use Rattle.numbers.specs.Checks.{unless}
 use Rattle.numbers.specs.Folds.{firstIn}
-use Rattle.numbers.proofs.Checking.{by-cond, under-zero, under-pass, differ-zero, differ-pass, unless-zero, unless-pass}
+use Rattle.numbers.proofs.Checking.{by-cond, both-zero, both-pass, under-zero, under-pass, differ-zero, differ-pass, unless-zero, unless-pass}
 use Rattle.numbers.proofs.Folding.{passed, passed-at, pass-at, _&_}
 use Rattle.numbers.proofs.Comparing.{same-refl, same-true}
 use Rattle.image.specs.Image.{countOf, lengthsOf, lengthAt, codeAt, layoutOf}
-use Rattle.image.specs.Validation.{areaCheck, apartCheck, limitsCheck, markCheck, versionCheck, lengthCheck, lengthsCheck, layoutCheck, refusal, validated, validationNumber}
+use Rattle.image.specs.Validation.{areaCheck, apartCheck, limitsCheck, markCheck, versionCheck, lengthCheck, lengthsCheck, layoutCheck, refusal, answer, validated, validationNumber}
 use Rattle.image.specs.Rules.{Within, AreaRules, LimitsRules, ImageRules}
 use Rattle.image.specs.declared.Area.{Area}
 use Rattle.image.specs.declared.Limits.{Limits}
@@ -34,27 +34,15 @@ module _ (area : Area) where
   unfolding areaCheck firstIn
   area-pass h = under-pass _ _ 1 (h .ordered) & under-pass _ _ 1 (h .low) & under-pass _ _ 1 (h .high) & refl
 
-differ-same : (a b k : ℕ) → a ≡ b → differ a b k ≡ 0
-differ-same a b k e = rw e (differ-pass b k)
-
 -- the areas don't meet exactly where one ends before the other begins
-either : (t u : Bool) → both (unless t 1) (unless u 1) ≡ 0 → (t ≡ true) ⊎ (u ≡ true)
-unfolding both unless
-either true u e = inl refl
-either false true e = inr refl
-either false false e = let z : ⊥ = omega (arith, e) in absurd z
-
-either-pass : (t u : Bool) → (t ≡ true) ⊎ (u ≡ true) → both (unless t 1) (unless u 1) ≡ 0
-unfolding both unless
-either-pass true u h = refl
-either-pass false true h = refl
-either-pass false false h = absurd (⊎-elim (λ e. true≢false (sym e)) (λ e. true≢false (sym e)) h)
-
 module _ (a b : Area) where
   apart-rule : apartCheck a b ≡ 0 → (address : ℕ) → Within a address → Within b address → ⊥
   unfolding apartCheck
   apart-rule e address p q =
-      ⊎-elim (λ t. omega (arith, ltb-true (a .high) (b .low) t)) (λ t. omega (arith, ltb-true (b .high) (a .low) t)) (either _ _ e)
+      ⊎-elim
+      (λ t. omega (arith, ltb-true (a .high) (b .low) (unless-zero _ 0 t)))
+      (λ t. omega (arith, ltb-true (b .high) (a .low) (unless-zero _ 0 t)))
+      (both-zero _ _ e)
 
   apart-ends : AreaRules a → AreaRules b → ((address : ℕ) → Within a address → Within b address → ⊥) →
       (a .high < b .low) ⊎ (b .high < a .low)
@@ -70,7 +58,10 @@ module _ (a b : Area) where
 
   apart-pass : (a .high < b .low) ⊎ (b .high < a .low) → apartCheck a b ≡ 0
   unfolding apartCheck
-  apart-pass h = either-pass _ _ (⊎-map (lt-ltb (a .high) (b .low)) (lt-ltb (b .high) (a .low)) h)
+  apart-pass h = both-pass _ _ (⊎-map (ends-apart (a .high) (b .low)) (ends-apart (b .high) (a .low)) h)
+    where
+      ends-apart : (end begin : ℕ) → end < begin → unless (ltb end begin) 1 ≡ 0
+      ends-apart end begin h = rw (lt-ltb end begin h) (unless-pass 1)
 
 module _ (limits : Limits) where
   limits-rules : limitsCheck limits ≡ 0 → LimitsRules limits
@@ -128,18 +119,32 @@ module _ (image : List ℕ) where
 
   version-pass : ImageRules image → versionCheck image ≡ 0
   unfolding versionCheck
-  version-pass h = differ-same _ _ 3 (h .version)
+  version-pass h = differ-pass _ _ 3 (h .version)
 
   layout-pass : ImageRules image → layoutCheck image ≡ 0
   unfolding layoutCheck firstIn
   layout-pass h =
       under-pass _ _ 4 (h .count .0) & under-pass _ _ 4 (h .count .1) & lengths-pass (h .lengths) & under-pass _ _ 4 (h .code) &
-      under-pass _ _ 4 (h .base) & under-pass _ _ 4 (h .top) & differ-same _ _ 4 (h .end) & refl
+      under-pass _ _ 4 (h .base) & under-pass _ _ 4 (h .top) & differ-pass _ _ 4 (h .end) & refl
 
   -- an image that follows the rules has its header
   header-whole : ImageRules image → 8 ≤ length image
   unfolding codeAt
   header-whole h = omega (arith, h .end)
+
+-- an answer says its number, or that there is none, and then the layout
+module _ (number : ℕ) (layout : Layout) where
+  pub answer-refused : (refused : ℕ) → answer number layout ≡ Refused refused → (number ≡ refused) × (refused ≡ 0 → ⊥)
+  answer-refused refused =
+      by-cond (eqb number 0)
+      (λ t e. let z : _≡_ {A = ℕ} 0 1 = cc in absurd (omega arith))
+      (λ t e. let same : number ≡ refused = cc in (same, λ z. eqb-false number 0 t (same ∙ z)))
+
+  pub answer-valid : (found : Layout) → answer number layout ≡ Valid found → (number ≡ 0) × (found ≡ layout)
+  answer-valid found =
+      by-cond (eqb number 0)
+      (λ t e. let same : found ≡ layout = cc in (eqb-true number 0 t, same))
+      (λ t e. let z : _≡_ {A = ℕ} 0 1 = cc in absurd (omega arith))
 
 module _ (image : List ℕ) (limits : Limits) where
   -- document 01's number of what validating gives
@@ -154,14 +159,16 @@ module _ (image : List ℕ) (limits : Limits) where
   -- a valid answer holds the layout
   pub valid-layout : (layout : Layout) → validated image limits ≡ Valid layout → layout ≡ layoutOf image
   unfolding validated
-  valid-layout layout =
-      by-cond (eqb (refusal image limits) 0) (λ t e. cc)
-      (λ t e. let z : _≡_ {A = ℕ} 0 1 = cc in let z2 : ⊥ = omega arith in absurd z2)
+  valid-layout layout e = answer-valid (refusal image limits) (layoutOf image) layout e .1
+
+  not-refused : (layout : Layout) → validated image limits ≡ Valid layout → refusal image limits ≡ 0
+  unfolding validated
+  not-refused layout e = answer-valid (refusal image limits) (layoutOf image) layout e .0
 
   pub valid-rules : (layout : Layout) → validated image limits ≡ Valid layout → LimitsRules limits × ImageRules image
   unfolding refusal
   valid-rules layout e =
-      let p = passed _ (sym number ∙ ap validationNumber e) in
+      let p = passed _ (not-refused layout e) in
       (limits-rules limits (p .0), image-rules image (p .1 .0) (p .1 .1 .0) (p .1 .1 .1 .0))
 
   pub rules-valid : LimitsRules limits → ImageRules image → validated image limits ≡ Valid (layoutOf image)

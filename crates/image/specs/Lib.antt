@@ -2,3 +2,4 @@ pub mod Image
 pub mod Access
 pub mod Validation
 pub mod Rules
+pub mod ValidLayout

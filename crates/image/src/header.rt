@@ -1,7 +1,7 @@
 // The header of an image: its mark, its length list and the rules of its layout.
 ghost use mathlib.Core.Path.{_≡_};
-ghost use Prim.Native.Nat.{_≤_, _*_};
-ghost use Rattle.image.specs.Image.{lengthAt, sizeOf, layoutOf};
+ghost use Prim.Native.Nat.{_≤_, _+_, _*_};
+ghost use Rattle.image.specs.Image.{baseOf, countOf, codeAt, lengthAt, sizeOf, layoutOf};
 ghost use Rattle.image.specs.Validation.{markCheck, lengthsCheck, layoutCheck};
 use crate::Layout;
 use numbers::checks::differ;
@@ -33,11 +33,33 @@ pub fn mark_check(image: &[u8]) -> u8
     unless(check::same(&image[..3], b"SLU"), 2)
 }
 
+// The address of the first code byte.
+pub fn base_of(image: &[u8]) -> u16
+    ensures { λ r. ⌜ r ≡ baseOf (now (image .entry)) ⌝ }
+{
+    word_at(image, 5)
+}
+
+// The number of routines.
+pub fn count_of(image: &[u8]) -> u8
+    ensures { λ r. ⌜ r ≡ countOf (now (image .entry)) ⌝ }
+{
+    byte_at(image, 7)
+}
+
+// The index of the first code byte.
+pub fn code_at(image: &[u8]) -> usize
+    ensures { λ r. ⌜ r ≡ codeAt (now (image .entry)) ⌝ }
+    ensures { λ r. ⌜ r ≤ 8 + 2 * 255 ⌝ }
+{
+    8 + 2 * count_of(image) as usize
+}
+
 // The length of routine k, 0 past the list. Nothing else reads the length list.
 pub fn routine_length(image: &[u8], k: usize) -> u16
     ensures { λ r. ⌜ r ≡ lengthAt (now (image .entry)) k ⌝ }
 {
-    let count = byte_at(image, 7) as usize;
+    let count = count_of(image) as usize;
     if k < count {
         word_at(image, 8 + 2 * k)
     } else {
@@ -45,13 +67,13 @@ pub fn routine_length(image: &[u8], k: usize) -> u16
     }
 }
 
-// The sum of 255 lengths passes 16 bits, and not 24.
+// The sum of the lengths and their check, in one loop. The sum of 255 lengths passes 16 bits, and not 24.
 pub fn lengths_check(image: &[u8]) -> CheckedLengths
     ensures { λ r. ⌜ r .total ≡ sizeOf (now (image .entry)) ⌝ }
     ensures { λ r. ⌜ r .refusal ≡ lengthsCheck (now (image .entry)) ⌝ }
     ensures { λ r. ⌜ r .total ≤ 65535 * 255 ⌝ }
 {
-    let count = byte_at(image, 7) as usize;
+    let count = count_of(image) as usize;
     let mut total = 0;
     let mut refusal = 0;
     let mut k = 0;
@@ -71,9 +93,9 @@ pub fn layout_check(image: &[u8]) -> CheckedLayout
 {
     let lengths = lengths_check(image);
     let size = lengths.total;
-    let base = word_at(image, 5);
-    let count = byte_at(image, 7) as usize;
-    let code = 8 + 2 * count;
+    let base = base_of(image);
+    let count = count_of(image) as usize;
+    let code = code_at(image);
     let refusal = first(under(count, 1, 4), under(32, count, 4));
     let refusal = first(refusal, lengths.refusal);
     let refusal = first(refusal, under(4096, size, 4));

@@ -5,6 +5,9 @@ mod header;
 
 pub use access::granted;
 pub use areas::limits_of;
+pub use header::base_of;
+pub use header::code_at;
+pub use header::count_of;
 pub use header::routine_length;
 ghost use mathlib.Core.Path.{_≡_};
 ghost use Rattle.image.specs.Validation.{answer as answerOf, validated, validationNumber};

@@ -8,7 +8,7 @@ use lib.ListN.{length, getD, set, length-set}
 use lib.Seq.{sets, length-sets, getD-set-same, getD-set-other}
 use borrow.Author.Tests.{lt-ltb}
 use Rattle.numbers.specs.Words.{high, low, wordAt}
-use Rattle.numbers.proofs.Wording.{word-high-low}
+use Rattle.numbers.proofs.WordLaws.{word-high-low}
 use Rattle.stm8.specs.Effects.{bytesWide}
 use Rattle.stm8.specs.declared.Width.{Width}
 use Rattle.stm8.specs.declared.Width.the-variants.{Byte, Word}

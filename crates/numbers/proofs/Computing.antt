@@ -1,5 +1,5 @@
 -- Computed tests: two functions that agree on a closed list of numbers, by one `refl`, agree at each of its numbers.
-use mathlib.Core.Path.{_≡_, refl, ap, sym, _∙_, subst}
+use mathlib.Core.Path.{_≡_, refl, ap, sym, _∙_}
 use mathlib.Core.Bool.{Bool, true, false, cond}
 use mathlib.Core.List.{List, [], _∷_, map}
 use Prim.Native.Nat.{ℕ, zero, suc, _+_, _<_}
@@ -15,12 +15,6 @@ agree d xs f g e n x at =
     ap f (sym at) ∙ sym (List·getD-map f (d ∷ xs) n d) ∙ ap (λ l. getD l n (f d)) e ∙
     ap (λ z. getD (map g (d ∷ xs)) n z) (ap (λ l. getD l 0 (f d)) e) ∙ List·getD-map g (d ∷ xs) n d ∙ ap g at
 
--- the k-th of the n numbers from i on
-pub counting-at : (n i k d : ℕ) → k < n → getD (counting n i) k d ≡ i + k
-counting-at zero i k d h = absurd (not-suc-le-zero h)
-counting-at (suc n) i zero d h = sym (add-zero i)
-counting-at (suc n) i (suc k) d h = counting-at n (suc i) k d (le-of-suc-le-suc h) ∙ suc-add i k ∙ sym (add-suc i k)
-
 -- a function's values at the n numbers from i on: how many, and the k-th of them
 pub mapped-length : {B : Type 0} (f : ℕ → B) (n i : ℕ) → length (map f (counting n i)) ≡ n
 mapped-length f zero i = refl
@@ -33,11 +27,12 @@ mapped-at f (suc n) i (suc k) d h = mapped-at f n (suc i) k d (le-of-suc-le-suc 
 
 -- at each number below a bound
 pub below : {B : Type 0} (n : ℕ) (f g : ℕ → B) → map f (counting (suc n) 0) ≡ map g (counting (suc n) 0) → (k : ℕ) → k < suc n → f k ≡ g k
-below n f g e k h = agree 0 (counting n 1) f g e k k (counting-at (suc n) 0 k 0 h ∙ zero-add k)
+below n f g e k h =
+    ap f (sym (zero-add k)) ∙ sym (mapped-at f (suc n) 0 k (f k) h) ∙ ap (λ l. getD l k (f k)) e ∙ mapped-at g (suc n) 0 k (f k) h ∙ ap g (zero-add k)
 
 -- an entry of a computed table
 pub table-at : (f : ℕ → ℕ) (k : ℕ) → k < 256 → getD (table f) k 0 ≡ f k
-table-at f = below 255 (λ k. getD (table f) k 0) f refl
+table-at f k h = mapped-at f 256 0 k 0 h ∙ ap f (zero-add k)
 
 -- What the default arm of a `match` on a number knows: x is none of the keys, which are listed from the last arm to the first.
 abbrev pub NoneOf : ℕ → List ℕ → Type 0

@@ -48,7 +48,7 @@ unfolding firstIn
 firstIn-more = fold-more first 0 first-pass first-none first-assoc
 
 -- the sum of a front part, and of a longer one
-pub total-split : (k : ℕ) (l : List ℕ) → total (take k l) + total (drop k l) ≡ total l
+total-split : (k : ℕ) (l : List ℕ) → total (take k l) + total (drop k l) ≡ total l
 unfolding sum total
 total-split k l = sym (sum-append _+_ 0 zero-add add-assoc (take k l) (drop k l)) ∙ ap total (take-append-drop k l)
 

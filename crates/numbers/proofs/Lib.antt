@@ -1,5 +1,7 @@
+pub mod Bytes
 pub mod Checking
 pub mod Comparing
 pub mod Computing
 pub mod Folding
-pub mod Wording
+pub mod Numbering
+pub mod WordLaws

@@ -1,6 +1,6 @@
-// Words and their two bytes, high byte first, and reads that give 0 past the end.
+// Words and their two bytes, high byte first; reads that give 0 past the end, and a write that does nothing there.
 ghost use mathlib.Core.Path.{_≡_};
-ghost use lib.ListN.{getD};
+ghost use lib.ListN.{getD, set};
 ghost use Rattle.numbers.specs.Words.{word as wordOf, high as highOf, low as lowOf, wordAt};
 
 // The word of a high and a low byte.
@@ -39,5 +39,14 @@ pub fn word_at(bytes: &[u8], at: usize) -> u16
         word(bytes[at], byte_at(bytes, at + 1))
     } else {
         0
+    }
+}
+
+// Puts a byte at an index; past the end there is no place for it.
+pub fn put_byte(bytes: &mut [u8], at: usize, byte: u8)
+    ensures { λ _. ⌜ now (bytes .exit) ≡ set (now (bytes .entry)) at byte ⌝ }
+{
+    if at < bytes.len() {
+        bytes[at] = byte;
     }
 }

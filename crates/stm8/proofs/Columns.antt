@@ -1,7 +1,6 @@
 -- What holds of each operation of a list that has them all holds of every operation: one computed test for a group of operations.
 use mathlib.Core.Path.{_≡_, refl}
 use mathlib.Core.List.{List, [], _∷_, map}
-use Prim.Native.Nat.{ℕ}
 use lib.ListN.{getD}
 use Rattle.numbers.proofs.Computing.{agree}
 use Rattle.stm8.specs.Encoding.{aluColumn, modifyColumn, conditionColumn}

@@ -1,5 +1,5 @@
 -- Decoding what was encoded gives the instruction and its length, whatever comes after it.
-use mathlib.Core.Path.{_≡_, refl, ap, sym, _∙_}
+use mathlib.Core.Path.{_≡_, refl, _∙_}
 use mathlib.Core.List.{List, [], _∷_, _++_}
 use mathlib.Core.Bool.{Bool, true, false, cond}
 use Prim.Native.Nat.{ℕ, _<_, _≤_, _+_, _*_}
@@ -10,7 +10,7 @@ use lib.Seq.{take-take, take-append-seam}
 use lib.ListN.{getD, length, length-append, take}
 use Rattle.numbers.specs.Words.{high, low}
 use Rattle.numbers.proofs.Computing.{below}
-use Rattle.numbers.proofs.Wording.{word-high-low}
+use Rattle.numbers.proofs.WordLaws.{word-high-low}
 use Rattle.stm8.specs.OpcodeMap.{Entry, Is}
 use Rattle.stm8.specs.Encoding.{bytesOf, bitPrecode, bitCode, testCode, padded, encoded}
 use Rattle.stm8.specs.Decoding.{pageOf, precodes, entryIn, decoded}

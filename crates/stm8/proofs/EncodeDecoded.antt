@@ -1,6 +1,6 @@
 -- Encoding what was decoded gives exactly the bytes that it was decoded from.
-use mathlib.Core.Path.{_≡_, refl, ap, sym, _∙_}
-use mathlib.Core.List.{List, [], _∷_, _++_}
+use mathlib.Core.Path.{_≡_, refl, ap, _∙_}
+use mathlib.Core.List.{List, [], _∷_}
 use mathlib.Core.Bool.{Bool, true, false, cond}
 use Prim.Native.Nat.{ℕ, zero, suc, _+_, _<_, _≤_, min}
 use native.Mathlib.Omega.{arith}
@@ -8,8 +8,9 @@ use native.Mathlib.Nat.{le-of-suc-le-suc, not-suc-le-zero}
 use borrow.Author.Tests.{eqb-true}
 use lib.Dec.{eqb}
 use lib.ListN.{getD, length, take, length-take}
+use Rattle.numbers.specs.Lists.{Bytes}
 use Rattle.numbers.proofs.Computing.{below}
-use Rattle.numbers.proofs.Wording.{high-word, low-word}
+use Rattle.numbers.proofs.WordLaws.{high-word, low-word}
 use Rattle.stm8.specs.OpcodeMap.{Page, Plain, After72, After90, Entry, Blank, Is, entry}
 use Rattle.stm8.specs.Encoding.{bytesOf, padded, encoded}
 use Rattle.stm8.specs.Decoding.{pageOf, precodes, entryIn, decoded}
@@ -78,10 +79,6 @@ page-front s = by-tests (eqb (getD s 0 0) 0x72) (eqb (getD s 0 0) 0x90) refl ref
     by-tests true q e f = rw (eqb-true (getD s 0 0) 0x72 e)
     by-tests false true e f = rw (eqb-true (getD s 0 0) 0x90 f)
     by-tests false false e f = refl
-
--- a list of bytes
-abbrev pub Bytes : List ℕ → Type 0
-Bytes s = (k : ℕ) → getD s k 0 < 256
 
 module _ (s : List ℕ) (bytes : Bytes s) (i : Instruction) (n : ℕ) where
   pub encode-bytes : decoded s ≡ Found i n → bytesOf i ≡ take n s

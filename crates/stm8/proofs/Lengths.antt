@@ -3,9 +3,10 @@ use mathlib.Core.Path.{_≡_, refl, ap, _∙_}
 use mathlib.Core.List.{List}
 use Prim.Native.Nat.{ℕ, _<_}
 use lib.ListN.{getD}
+use Rattle.numbers.specs.Lists.{Bytes}
 use Rattle.numbers.proofs.Computing.{below, table-at}
 use Rattle.stm8.specs.OpcodeMap.{Page, Plain, After72, After90, entry}
-use Rattle.stm8.specs.Decoding.{pageOf, precodes, entryIn, lengthOf, lengths, tables, decodedIn, decoded, decodedBy}
+use Rattle.stm8.specs.Decoding.{pageOf, precodes, entryIn, lengthOf, lengths, decodedIn, decoded, tables, decodedBy, Tables}
 
 -- the computed test: the bytes after an op-code do not change its length
 same-length : (page : Page) (a b c d op : ℕ) → op < 256 → lengthOf (entry page op 0 0 0 0) ≡ lengthOf (entry page op a b c d)
@@ -18,12 +19,17 @@ unfolding lengths
 lengths-hold page a b c d op h = table-at (λ k. lengthOf (entry page k 0 0 0 0)) op h ∙ same-length page a b c d op h
 
 -- so decoding goes by the tables
-module _ (s : List ℕ) (bytes : (k : ℕ) → getD s k 0 < 256) where
-  pub in-page : (page : Page) (sizes : Page → List ℕ) → sizes page ≡ lengths page →
-      decodedIn page (getD (sizes page) (getD s (precodes page) 0) 0) s ≡ decodedIn page (lengthOf (entryIn page s)) s
-  in-page page sizes e =
-      ap (λ n. decodedIn page n s) (ap (λ l. getD l (getD s (precodes page) 0) 0) e ∙ lengths-hold page _ _ _ _ _ (bytes (precodes page)))
+pub in-page : (s : List ℕ) → Bytes s → (page : Page) (table : List ℕ) → table ≡ lengths page →
+    decodedIn page (getD table (getD s (precodes page) 0) 0) s ≡ decodedIn page (lengthOf (entryIn page s)) s
+in-page s bytes page table e =
+    ap (λ n. decodedIn page n s) (ap (λ l. getD l (getD s (precodes page) 0) 0) e ∙ lengths-hold page _ _ _ _ _ (bytes (precodes page)))
 
-  pub decoded-by-lengths : decodedBy lengths s ≡ decoded s
-  unfolding decodedBy decoded
-  decoded-by-lengths = in-page (pageOf (getD s 0 0)) lengths refl
+pub decoded-by-tables : (plain after72 after90 : List ℕ) → Tables plain after72 after90 → (s : List ℕ) → Bytes s →
+    decodedBy (tables plain after72 after90) s ≡ decoded s
+unfolding decodedBy decoded
+decoded-by-tables plain after72 after90 own s bytes = in-page s bytes (pageOf (getD s 0 0)) _ (held (pageOf (getD s 0 0)))
+  where
+    held : (page : Page) → tables plain after72 after90 page ≡ lengths page
+    held Plain = own .plain-is
+    held After72 = own .after72-is
+    held After90 = own .after90-is

@@ -4,3 +4,4 @@ pub mod Opening
 pub mod DecodeEncoded
 pub mod EncodeDecoded
 pub mod Longer
+pub mod EffectLaws

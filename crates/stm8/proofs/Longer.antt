@@ -1,14 +1,15 @@
 -- An instruction that was found has bytes, all of them there, and bytes after them do not change it.
-use mathlib.Core.Path.{_≡_, refl, ap, sym, _∙_, subst}
+use mathlib.Core.Path.{_≡_, ap, sym, _∙_}
 use mathlib.Core.List.{List, _++_, append-assoc}
 use Prim.Native.Nat.{ℕ, _<_, _≤_}
 use native.Mathlib.Omega.{arith}
-use lib.ListN.{getD, length, take, drop, take-append-drop}
+use lib.ListN.{length, take, drop, take-append-drop}
+use Rattle.numbers.specs.Lists.{Bytes}
 use Rattle.stm8.specs.Encoding.{bytesOf}
 use Rattle.stm8.specs.Decoding.{decoded}
-use Rattle.stm8.proofs.Opening.{Opened, found}
+use Rattle.stm8.proofs.Opening.{found}
 use Rattle.stm8.proofs.DecodeEncoded.{decode-bytes, bytes-short}
-use Rattle.stm8.proofs.EncodeDecoded.{Bytes, encode-bytes}
+use Rattle.stm8.proofs.EncodeDecoded.{encode-bytes}
 use Rattle.stm8.specs.declared.Instruction.{Instruction}
 use Rattle.stm8.specs.declared.Decoded.the-variants.{Found}
 

@@ -2,16 +2,16 @@
 use mathlib.Core.Path.{_≡_, refl, ap, sym, _∙_}
 use mathlib.Core.Bool.{Bool, true, false, cond}
 use mathlib.Core.List.{List}
-use Prim.Native.Nat.{ℕ, zero, suc, _<_, _≤_}
+use Prim.Native.Nat.{ℕ, _<_, _≤_}
+use native.Mathlib.Nat.{pos-of-ne-zero}
 use native.Mathlib.Omega.{arith}
 use borrow.Author.Tests.{lt-leb, le-ltb, ne-eqb, ltb-false, eqb-false}
 use lib.Dec.{eqb, leb, ltb}
 use lib.ListN.{getD, length}
-use Rattle.stm8.specs.OpcodeMap.{Page, Entry, Blank, Is}
+use Rattle.stm8.specs.OpcodeMap.{Entry, Blank, Is}
 use Rattle.stm8.specs.Encoding.{bytesOf}
-use Rattle.stm8.specs.Decoding.{pageOf, precodes, entryIn, lengthOf, foundAs, sized, decodedIn, decoded}
+use Rattle.stm8.specs.Decoding.{pageOf, precodes, entryIn, lengthOf, foundAs, decoded}
 use Rattle.stm8.specs.declared.Instruction.{Instruction}
-use Rattle.stm8.specs.declared.Decoded.{Decoded}
 use Rattle.stm8.specs.declared.Decoded.the-variants.{Found, Outside, Truncated}
 
 -- an instruction whose bytes are all there
@@ -43,11 +43,7 @@ module _ (s : List ℕ) (i : Instruction) (n : ℕ) where
       let size : length (bytesOf j) ≡ n = cc in
       let some : length (bytesOf j) ≡ 0 → ⊥ = eqb-false _ _ p in
       let room : length (bytesOf j) ≤ length s = ltb-false _ _ q in
-      record { entry = at ∙ ap Is same; size = ap (λ k. length (bytesOf k)) (sym same) ∙ size; some = positive n (λ z. some (size ∙ z)); room = omega arith }
-    where
-      positive : (m : ℕ) → (m ≡ 0 → ⊥) → 0 < m
-      positive zero f = absurd (f refl)
-      positive (suc m) f = omega arith
+      record { entry = at ∙ ap Is same; size = ap (λ k. length (bytesOf k)) (sym same) ∙ size; some = pos-of-ne-zero (λ z. some (size ∙ z)); room = omega arith }
 
   pub found : decoded s ≡ Found i n → Opened s i n
   unfolding decoded

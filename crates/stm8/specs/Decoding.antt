@@ -1,7 +1,8 @@
 -- Decoding: what the bytes at the front of a list are.
 use Prim.Native.Nat.{ℕ, _+_}
+use mathlib.Core.Path.{_≡_}
 use mathlib.Core.List.{List}
-use mathlib.Core.Bool.{Bool, cond}
+use mathlib.Core.Bool.{cond}
 use lib.Dec.{eqb, leb, ltb}
 use lib.ListN.{length, getD}
 use Rattle.numbers.specs.Computed.{table}
@@ -57,7 +58,13 @@ tables plain after72 after90 After72 = after72
 tables plain after72 after90 After90 = after90
 
 unfoldable pub decodedBy : (Page → List ℕ) → List ℕ → Decoded
-decodedBy sizes s = let page = pageOf (getD s 0 0) in decodedIn page (getD (sizes page) (getD s (precodes page) 0) 0) s
+decodedBy tableOf s = let page = pageOf (getD s 0 0) in decodedIn page (getD (tableOf page) (getD s (precodes page) 0) 0) s
+
+-- tables that hold the map's own lengths
+pub record Tables (plain after72 after90 : List ℕ) : Type 0 where
+  pub plain-is : plain ≡ lengths Plain
+  pub after72-is : after72 ≡ lengths After72
+  pub after90-is : after90 ≡ lengths After90
 
 -- document 01's number of an answer, 0 for an instruction
 abbrev pub decodingNumber : Decoded → ℕ

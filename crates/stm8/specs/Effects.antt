@@ -19,7 +19,8 @@ use Rattle.stm8.specs.declared.Flow.{Flow}
 use Rattle.stm8.specs.declared.Flow.the-variants.{Next, Branch, Jump, Call, CallRelative, Return}
 use Rattle.stm8.specs.declared.Effect.{Effect}
 
--- where a relative jump or call goes: its offset is signed, -128 to 127, from the next instruction's address
+-- where a relative jump or call goes: its offset is signed, -128 to 127, from the next instruction's address; an address below 0, which no code
+-- has, counts as 0
 unfoldable pub relative : ℕ → ℕ → ℕ
 relative next offset = cond (ltb offset 128) (next + offset) (next + offset - 256)
 

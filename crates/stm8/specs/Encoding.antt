@@ -245,7 +245,7 @@ flagCode Rcf = 0x98
 flagCode Scf = 0x99
 flagCode Rvf = 0x9c
 
--- a bit position is 0 to 7
+-- the bytes of an instruction, none where its name and form are not paired; a bit position is 0 to 7
 abbrev pub bytesOf : Instruction → List ℕ
 bytesOf (Alu o x) = aluBytes o x
 bytesOf (Store x) = storeBytes x

@@ -23,12 +23,12 @@ loop-holds c =
     (omega arith, omega arith, sym (start-zero image), sym (lengths-none image))
 
 loop-again : tie.Need-loop-again Inv-loop μ-loop
-unfolding endOf countOf lengthCheck
+unfolding endOf lengthCheck
 loop-again c =
     let c2 = c .before .before in
     let c4 = c2 .before .before in
     let image = now (c4 .before .before .before .args .image) in
-    let below = rw (c4 .before .byte-at .ensures) at (c2 .before .loop-test .taken) in (
+    let below = rw (c4 .before .count-of .ensures) at (c2 .before .loop-test .taken) in (
       omega arith,
       omega arith,
       rw (c4 .loop .inv .2, c2 .routine-length .ensures) (sym (start-next image (c4 .loop .k) below)),
@@ -36,11 +36,10 @@ loop-again c =
     )
 
 returns : tie.Need-returns Inv-loop μ-loop
-unfolding countOf
 returns c =
     let c1 = c .before in
     let image = now (c1 .before .before .before .args .image) in
-    let all : c1 .loop .k ≡ countOf image = rw (← c1 .before .byte-at .ensures) (omega arith) in
+    let all : c1 .loop .k ≡ countOf image = rw (← c1 .before .count-of .ensures) (omega arith) in
     (c1 .loop .inv .2 ∙ ap (startOf image) all ∙ start-count image, (c1 .loop .inv .3 ∙ ap (lengthsBefore image) all ∙ lengths-all image, omega arith))
 
 pub lengths-check-spec : {M : Type 1} → statement M

@@ -1,7 +1,5 @@
 -- `numbers::bits::bit` meets its contract: a byte has no bit above 7.
-use Prim.Native.Nat.{_^_, _<_, _/_}
-use mathlib.Core.Path.{_≡_}
-use native.Mathlib.Omega.{arith}
+use Prim.Native.Nat.{_^_, _<_}
 use native.Mathlib.Nat.{div-eq-of-lt, lt-of-lt-of-le}
 use lib.Pow.{pow-mono}
 use borrow.Author.Needs.{needs}

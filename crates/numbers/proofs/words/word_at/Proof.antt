@@ -1,6 +1,5 @@
 -- `numbers::words::word_at` meets its contract: past the end of a list both bytes are 0.
 use Prim.Native.Nat.{_+_}
-use mathlib.Core.Path.{refl}
 use native.Mathlib.Omega.{arith}
 use denote.Ref.{now}
 use lib.ListN.{List·getD-eq-default}

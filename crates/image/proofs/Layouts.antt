@@ -1,38 +1,24 @@
--- What holds of a valid layout: bounds for whoever indexes by it.
-use Prim.Native.Nat.{ℕ, _+_, _*_, _-_, _<_, _≤_}
-use mathlib.Core.Path.{_≡_, refl, subst, sym, _∙_}
+-- A valid layout is what its image says, within bounds.
+use Prim.Native.Nat.{ℕ, _+_, _-_, _<_}
+use mathlib.Core.Path.{_≡_, refl, subst, sym, ap, _∙_}
 use mathlib.Core.List.{List}
 use native.Mathlib.Omega.{arith}
-use lib.ListN.{length}
-use Rattle.image.specs.Image.{countOf, codeAt, codeOf, sizeOf, layoutOf, startOf, endOf, mainOf}
+use Rattle.image.specs.Image.{baseOf, countOf, codeAt, sizeOf, layoutOf, startOf, endOf, mainOf}
 use Rattle.image.specs.Validation.{validated}
 use Rattle.image.specs.Rules.{LimitsRules, ImageRules}
+use Rattle.image.specs.ValidLayout.{ValidLayout}
 use Rattle.image.specs.declared.Limits.{Limits}
 use Rattle.image.specs.declared.Layout.{Layout}
 use Rattle.image.specs.declared.Validated.the-variants.{Valid}
 use Rattle.image.proofs.Measuring.{start-next, start-count, end-inside, code-length}
 use Rattle.image.proofs.Validity.{valid-layout, valid-rules}
 
-pub record ValidLayout (image : List ℕ) (layout : Layout) : Type 0 where
-  pub is : layout ≡ layoutOf image
-  pub count : (1 ≤ layout .count) × (layout .count ≤ 32)
-  pub header : layout .code ≡ 8 + 2 * layout .count
-  pub end : layout .code + layout .size ≡ length image
-  pub code : length (codeOf image) ≡ layout .size
-  pub size : (1 ≤ layout .size) × (layout .size ≤ 4096)
-  pub base : 0x8000 ≤ layout .base
-  pub top : layout .base + layout .size ≤ 0x10000
-  -- a routine has a byte and lies inside the code, and main ends with the code
-  pub begins : (k : ℕ) → k < layout .count → startOf image k < endOf image k
-  pub ends : (k : ℕ) → k < layout .count → endOf image k ≤ layout .size
-  pub main : endOf image (mainOf image) ≡ layout .size
-
 module _ (image : List ℕ) where
-  begins-before-end : ImageRules image → (k : ℕ) → k < countOf image → startOf image k < endOf image k
+  pub begins-before-end : ImageRules image → (k : ℕ) → k < countOf image → startOf image k < endOf image k
   unfolding endOf
   begins-before-end rules k h = omega (arith, rules .lengths k h)
 
-  main-ends : ImageRules image → endOf image (mainOf image) ≡ sizeOf image
+  pub main-ends : ImageRules image → endOf image (mainOf image) ≡ sizeOf image
   unfolding mainOf
   main-ends rules =
       let last : countOf image - 1 + 1 ≡ countOf image = omega (arith, rules .count .0) in
@@ -65,3 +51,19 @@ module _ (image : List ℕ) (limits : Limits) (layout : Layout) (valid : validat
 
   pub valid-limits : LimitsRules limits
   valid-limits = valid-rules image limits layout valid .0
+
+  pub base-is : layout .base ≡ baseOf image
+  unfolding layoutOf
+  base-is = ap (λ (l : Layout). l .base) (valid-layout image limits layout valid)
+
+  pub count-is : layout .count ≡ countOf image
+  unfolding layoutOf
+  count-is = ap (λ (l : Layout). l .count) (valid-layout image limits layout valid)
+
+  pub code-is : layout .code ≡ codeAt image
+  unfolding layoutOf
+  code-is = ap (λ (l : Layout). l .code) (valid-layout image limits layout valid)
+
+  pub size-is : layout .size ≡ sizeOf image
+  unfolding layoutOf
+  size-is = ap (λ (l : Layout). l .size) (valid-layout image limits layout valid)
