@@ -12,6 +12,7 @@ use Rattle.image.specs.declared.Limits.{Limits}
 use Rattle.image.specs.Image.{countOf, sizeOf, mainOf}
 use Rattle.image.specs.Rules.{LimitsRules, ImageRules}
 use Rattle.image.proofs.Validity.{valid-rules, rules-valid}
+use Rattle.image.proofs.Layouts.{begins-before-end}
 use Rattle.image.proofs.Measuring.{end-inside}
 use Rattle.checker.specs.Check.{swept, verdict, codeChecked, checked}
 use Rattle.checker.specs.Check.{reportedNeed as needReported}
@@ -20,14 +21,11 @@ use Rattle.checker.specs.declared.Verdict.{Verdict}
 use Rattle.checker.specs.declared.Verdict.the-variants.{Accepted}
 use Rattle.acceptance.specs.Rules.{Start, Rules, reportedNeed, StartCount}
 use Rattle.acceptance.specs.Acceptance.{Acceptable, AcceptedMarks}
-use Rattle.acceptance.specs.WellMarked.{WellMarked}
 use Rattle.acceptance.proofs.Starts.{start-high}
-use Rattle.acceptance.proofs.Callees.{routine-some}
 use Rattle.acceptance.proofs.Swept.{needIn}
 use Rattle.acceptance.proofs.OneRoutine.{depthIn}
 use Rattle.acceptance.proofs.WholeCode.{not-refused, swept-rules, swept-needs, swept-marks, swept-count}
 use Rattle.acceptance.proofs.Unique.{one-depth, one-need, one-count}
-use Rattle.acceptance.proofs.WellMarking.{well-marked}
 use Rattle.acceptance.proofs.RefusalNumbers.{sweep-size}
 use Rattle.acceptance.proofs.Outcomes.{sweptOutcome, by-outcome, checked-swept}
 
@@ -139,7 +137,7 @@ module _ (image : List ℕ) (limits : Limits) (marks : List ℕ) where
         List·getD-append (swept image limits .1) (drop (sizeOf image) marks) 0 o (omega (arith, sweep-size image limits))
 
     start-below : (r o : ℕ) → r < countOf image → Start image r o → o < sizeOf image
-    start-below r o inside s = omega (arith, start-high image r (routine-some image (rules .layout) r inside) s, end-inside image r inside)
+    start-below r o inside s = omega (arith, start-high image r (begins-before-end image (rules .layout) r inside) s, end-inside image r inside)
 
     pub accepted-marks : AcceptedMarks image depth (checked image limits marks .1)
     accepted-marks =
@@ -150,16 +148,12 @@ module _ (image : List ℕ) (limits : Limits) (marks : List ℕ) where
           others = λ o below. rw (mark-is o below) (m .others o below);
         }
 
-    pub accepted-well-marked : WellMarked image limits (checked image limits marks .1) need
-    accepted-well-marked = well-marked image limits depth need (checked image limits marks .1) rules accepted-marks
-
   -- the theorem, each way
   pub accept-sound : {n c : ℕ} → checked image limits marks .0 ≡ Accepted n c →
       (h : Acceptable image limits marks n c) × AcceptedMarks image (h .depth) (checked image limits marks .1)
-      × WellMarked image limits (checked image limits marks .1) (h .needs)
   accept-sound e =
       let h = accepted-rules e in
-      (h, accepted-marks (h .depth) (h .needs) (h .rules) (h .enough), accepted-well-marked (h .depth) (h .needs) (h .rules) (h .enough))
+      (h, accepted-marks (h .depth) (h .needs) (h .rules) (h .enough))
 
   pub accept-complete : (depth need : ℕ → ℕ) → Rules image limits depth need → sizeOf image ≤ length marks →
       (count : ℕ) × StartCount image count × (checked image limits marks .0 ≡ Accepted (reportedNeed image need) count)

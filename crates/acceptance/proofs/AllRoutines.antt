@@ -13,13 +13,13 @@ use Rattle.numbers.proofs.Checking.{by-cond}
 use Rattle.image.specs.declared.Limits.{Limits}
 use Rattle.image.specs.Image.{countOf, sizeOf, startOf, endOf}
 use Rattle.image.specs.Rules.{ImageRules}
+use Rattle.image.proofs.Layouts.{begins-before-end}
 use Rattle.image.proofs.Measuring.{start-next, end-inside, end-before}
 use Rattle.checker.specs.Sweep.{routineSwept, closed, routinesFrom}
 use Rattle.checker.specs.declared.sweep.Progress.{Progress}
 use Rattle.checker.specs.declared.sweep.Sweep.{Sweep}
 use Rattle.acceptance.specs.Rules.{Start, RoutineRules, Use, Greatest, countBelow}
 use Rattle.acceptance.proofs.Starts.{start-high}
-use Rattle.acceptance.proofs.Callees.{routine-some}
 use Rattle.acceptance.proofs.Mapping.{routine-map, greatest-map}
 use Rattle.acceptance.proofs.Swept.{marked, needIn}
 use Rattle.acceptance.proofs.OneRoutine.{depthIn, RoutineSwept, routine-sound, routine-complete}
@@ -41,7 +41,7 @@ module _ (image : List ℕ) (layout : ImageRules image) (limits : Limits) where
       (p : Progress) (marks′ : List ℕ) (g : RoutineSwept image limits (s .needs) (s .index) marks marks′ (p .need) (p .count)) where
     same-mark : (r o : ℕ) → r < s .index → Start image r o → getD marks o 0 ≡ getD marks′ o 0
     same-mark r o below st =
-        let high = start-high image r (routine-some image layout r (omega arith)) st in
+        let high = start-high image r (begins-before-end image layout r (omega arith)) st in
         sym (g .outside o (inl (omega (arith, end-before image r (s .index) below (omega arith)))))
 
     same-need : (j : ℕ) → j < s .index → needIn (s .needs) j ≡ needIn (closed s p .needs) j
@@ -60,7 +60,7 @@ module _ (image : List ℕ) (layout : ImageRules image) (limits : Limits) where
         record {
           size = g .size ∙ swept .size;
           held = length-set (s .needs) (s .index) (p .need) ∙ swept .held;
-          clear = λ o low. g .outside o (inr (omega arith)) ∙ swept .clear o (omega (arith, routine-some image layout (s .index) inside));
+          clear = λ o low. g .outside o (inr (omega arith)) ∙ swept .clear o (omega (arith, begins-before-end image layout (s .index) inside));
           rules = λ r below.
               by-routine (λ r. RoutineRules image limits (depthIn marks′) r) r below
               (λ l. routine-map (λ o st. rw (same-mark r o l st)) (swept .rules r l))

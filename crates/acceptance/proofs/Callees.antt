@@ -7,19 +7,16 @@ use native.Mathlib.Decide.{ℕ-discrete, decLt}
 use native.Mathlib.Omega.{arith}
 use borrow.Author.Tests.{eq-eqb, ne-eqb, ltb-true, lt-ltb, le-ltb}
 use Rattle.numbers.proofs.Checking.{unless-zero, unless-pass}
-use Rattle.image.specs.Image.{baseOf, countOf, startOf, endOf}
+use Rattle.image.specs.Image.{baseOf, countOf, startOf}
 use Rattle.image.specs.Rules.{ImageRules}
+use Rattle.image.proofs.Layouts.{begins-before-end}
 use Rattle.image.proofs.Measuring.{end-before}
 use Rattle.checker.specs.Sweep.{beginning, callee, callCheck}
 use Rattle.acceptance.specs.Rules.{Callee}
 
 module _ (image : List ℕ) (layout : ImageRules image) where
-  pub routine-some : (k : ℕ) → k < countOf image → startOf image k < endOf image k
-  unfolding endOf
-  routine-some k h = omega (arith, layout .lengths k h)
-
   start-before : (j k : ℕ) → j < k → k ≤ countOf image → startOf image j < startOf image k
-  start-before j k h below = omega (arith, routine-some j (omega arith), end-before image j k h (omega arith))
+  start-before j k h below = omega (arith, begins-before-end image layout j (omega arith), end-before image j k h (omega arith))
 
   -- two routines do not begin at one offset
   pub one-routine : (j k : ℕ) → j ≤ countOf image → k ≤ countOf image → startOf image j ≡ startOf image k → j ≡ k

@@ -2,58 +2,42 @@
 use Prim.Native.Nat.{ℕ, zero, suc, _+_, _-_, _<_, _≤_, max}
 use mathlib.Core.Path.{_≡_, refl, sym, _∙_}
 use mathlib.Core.Logic.{_⊎_, inl, inr, ⊎-elim, by-cases}
-use mathlib.Core.Bool.{Bool, true, false, cond, false≢true}
+use mathlib.Core.Bool.{Bool, true, false, cond}
 use mathlib.Core.List.{List}
 use native.Mathlib.Decide.{ℕ-discrete}
 use native.Mathlib.Nat.{eq-zero-or-pos}
 use native.Mathlib.Omega.{arith}
-use lib.Dec.{eqb, leb}
 use lib.ListN.{getD}
-use borrow.Author.Tests.{eqb-true, leb-true, le-leb}
-use Rattle.numbers.specs.Checks.{both, under}
+use Rattle.numbers.specs.Checks.{under}
 use Rattle.numbers.specs.Folds.{firstIn}
-use Rattle.numbers.proofs.Checking.{by-cond, first-zero, under-zero, under-pass, differ-zero, differ-pass, unless-zero, unless-pass}
+use Rattle.numbers.proofs.Checking.{first-zero, both-zero, both-pass, under-zero, under-pass, differ-zero, differ-pass, unless-zero, unless-pass}
 use Rattle.numbers.proofs.Folding.{passed, _&_}
 use Rattle.stm8.specs.Effects.{bytesWide}
-use Rattle.stm8.specs.declared.Width.{Width}
-use Rattle.stm8.specs.declared.Width.the-variants.{Byte, Word}
+use Rattle.stm8.proofs.EffectLaws.{wide-some}
 use Rattle.stm8.specs.declared.Place.{Place}
 use Rattle.stm8.specs.declared.Place.the-variants.{Nowhere, Direct, OnStack, Pushed}
 use Rattle.stm8.specs.declared.Flow.{Flow}
 use Rattle.stm8.specs.declared.Flow.the-variants.{Next, Branch, Jump, Call, CallRelative, Return}
 use Rattle.stm8.specs.declared.Effect.{Effect}
-use Rattle.image.specs.Access.{granted}
+use Rattle.image.proofs.Granting.{granted-ends, ends-granted}
 use Rattle.image.specs.declared.Limits.{Limits}
 use Rattle.checker.specs.Depth.{popped, after, falls}
 use Rattle.checker.specs.Sweep.{reachCheck, agreeCheck, insideCheck, returnCheck, depthCheck, storeCheck, jumpCheck, offEndCheck}
 use Rattle.checker.specs.declared.sweep.Routine.{Routine}
 use Rattle.acceptance.specs.Rules.{StoreRules}
 
-either-zero : (a b : ℕ) → both a b ≡ 0 → (a ≡ 0) ⊎ (b ≡ 0)
-unfolding both
-either-zero a b = by-cond (eqb a 0) (λ t e. inl (eqb-true a 0 t)) (λ t e. inr e)
-
-either-pass : (a b : ℕ) → (a ≡ 0) ⊎ (b ≡ 0) → both a b ≡ 0
-unfolding both
-either-pass a b (inl e) = rw e
-either-pass a b (inr e) = go (eqb a 0)
-  where
-    go : (t : Bool) → cond t 0 b ≡ 0
-    go true = refl
-    go false = e
-
 -- a start is reached where control falls into it or its depth is known, and then its depth is the one of both
 module _ (falling mark : ℕ) where
   pub reached-one : reachCheck falling mark ≡ 0 → (1 ≤ falling) ⊎ (1 ≤ mark)
   unfolding reachCheck
-  reached-one e = ⊎-elim (λ z. inl (under-zero falling 1 5 z)) (λ z. inr (under-zero mark 1 5 z)) (either-zero _ _ e)
+  reached-one e = ⊎-elim (λ z. inl (under-zero falling 1 5 z)) (λ z. inr (under-zero mark 1 5 z)) (both-zero _ _ e)
 
   agreeing : agreeCheck falling mark ≡ 0 → (falling ≤ 0) ⊎ ((mark ≤ 0) ⊎ (falling ≡ mark))
   unfolding agreeCheck
   agreeing e =
       ⊎-elim (λ z. inl (under-zero 0 falling 6 z))
-      (λ z. inr (⊎-elim (λ y. inl (under-zero 0 mark 6 y)) (λ y. inr (differ-zero falling mark 6 y)) (either-zero _ _ z)))
-      (either-zero _ _ e)
+      (λ z. inr (⊎-elim (λ y. inl (under-zero 0 mark 6 y)) (λ y. inr (differ-zero falling mark 6 y)) (both-zero _ _ z)))
+      (both-zero _ _ e)
 
   pub entry-one : reachCheck falling mark ≡ 0 → 1 ≤ max falling mark
   entry-one e = ⊎-elim (λ z. omega arith) (λ z. omega arith) (reached-one e)
@@ -67,14 +51,14 @@ module _ (falling mark : ℕ) where
   module _ (m : ℕ) (one : (1 ≤ falling) ⊎ (1 ≤ mark)) (fell : 1 ≤ falling → falling ≡ m) (known : 1 ≤ mark → mark ≡ m) where
     pub reach-pass : reachCheck falling mark ≡ 0
     unfolding reachCheck
-    reach-pass = either-pass _ _ (⊎-elim (λ z. inl (under-pass falling 1 6 z)) (λ z. inr (under-pass mark 1 6 z)) one)
+    reach-pass = both-pass _ _ (⊎-elim (λ z. inl (under-pass falling 1 6 z)) (λ z. inr (under-pass mark 1 6 z)) one)
 
     pub agree-pass : agreeCheck falling mark ≡ 0
     unfolding agreeCheck
     agree-pass =
-        ⊎-elim (λ z. either-pass _ _ (inl (under-pass 0 falling 7 (omega (arith, z)))))
-        (λ y. either-pass _ _ (inr (⊎-elim (λ z. either-pass _ _ (inl (under-pass 0 mark 7 (omega (arith, z)))))
-        (λ z. let e : falling ≡ mark = fell y ∙ sym (known z) in either-pass _ _ (inr (rw e (differ-pass mark 7))))
+        ⊎-elim (λ z. both-pass _ _ (inl (under-pass 0 falling 7 (omega (arith, z)))))
+        (λ y. both-pass _ _ (inr (⊎-elim (λ z. both-pass _ _ (inl (under-pass 0 mark 7 (omega (arith, z)))))
+        (λ z. let e : falling ≡ mark = fell y ∙ sym (known z) in both-pass _ _ (inr (differ-pass _ _ 7 e)))
         (eq-zero-or-pos mark))))
         (eq-zero-or-pos falling)
 
@@ -128,36 +112,19 @@ module _ (e : Effect) (depth : ℕ) where
   unfolding depthCheck firstIn
   depth-pass a b c d = under-pass _ _ 11 a & under-pass _ _ 11 b & under-pass _ _ 11 c & return-pass (e .flow) depth d & refl
 
-width-some : (w : Width) → 1 ≤ bytesWide w
-width-some Byte = omega arith
-width-some Word = omega arith
-
--- a store of n bytes lies in the grant where its first byte and its last do
-module _ (limits : Limits) (address n : ℕ) where
-  pub granted-ends : granted limits address n ≡ true → (limits .grant .low ≤ address) × (address + n ≤ limits .grant .high + 1)
-  unfolding granted
-  granted-ends =
-      by-cond (leb (limits .grant .low) address)
-      (λ t e. (leb-true (limits .grant .low) address t, leb-true (address + n) (limits .grant .high + 1) e))
-      (λ t e. absurd (false≢true e))
-
-  pub ends-granted : limits .grant .low ≤ address → address + n ≤ limits .grant .high + 1 → granted limits address n ≡ true
-  unfolding granted
-  ends-granted low high = rw (le-leb (limits .grant .low) address low) (le-leb (address + n) (limits .grant .high + 1) high)
-
 module _ (limits : Limits) (depth : ℕ) where
   pub store-rules : (place : Place) → storeCheck limits place depth ≡ 0 → StoreRules limits depth place
   unfolding storeCheck
   store-rules Nowhere e = tt
   store-rules (Direct address w) e =
       let p = granted-ends limits address (bytesWide w) (unless-zero _ 11 e) in
-      let some = width-some w in
+      let some = wide-some w in
       (omega arith, omega arith)
   store-rules (OnStack f w) e =
       let p = first-zero _ _ e in
       let low = under-zero f 1 11 (p .0) in
       let high = under-zero (depth + 1) (f + bytesWide w) 11 (p .1) in
-      let some = width-some w in
+      let some = wide-some w in
       (omega arith, omega arith)
   store-rules (Pushed w) e = tt
 
@@ -165,10 +132,10 @@ module _ (limits : Limits) (depth : ℕ) where
   unfolding storeCheck
   store-pass Nowhere h = refl
   store-pass (Direct address w) h =
-      let some = width-some w in
+      let some = wide-some w in
       rw (ends-granted limits address (bytesWide w) (omega arith) (omega arith)) (unless-pass 12)
   store-pass (OnStack f w) h =
-      let some = width-some w in
+      let some = wide-some w in
       under-pass f 1 12 (omega arith) & under-pass (depth + 1) (f + bytesWide w) 12 (omega arith)
   store-pass (Pushed w) h = refl
 
@@ -193,11 +160,11 @@ module _ (base : ℕ) (marks : List ℕ) (r : Routine) (next mark to : ℕ) wher
           ahead =
               ⊎-elim (λ y. inl (omega (arith, under-zero address (base + next) 9 y)))
               (λ y. inr (rw at at (under-zero (getD marks (address - base) 0) 1 9 y)))
-              (either-zero _ _ (p .1 .1 .0));
+              (both-zero _ _ (p .1 .1 .0));
           agrees =
               ⊎-elim (λ y. inl (rw at at (under-zero 0 (getD marks (address - base) 0) 6 y)))
               (λ y. inr (rw at at (differ-zero (getD marks (address - base) 0) mark 6 y)))
-              (either-zero _ _ (p .1 .1 .1 .0));
+              (both-zero _ _ (p .1 .1 .1 .0));
         },
       )
 
@@ -207,8 +174,8 @@ module _ (base : ℕ) (marks : List ℕ) (r : Routine) (next mark to : ℕ) wher
       let at : base + to - base ≡ to = omega arith in
       rw at
       (under-pass _ _ 13 (omega (arith, h .low)) & under-pass _ _ 13 (omega (arith, h .high)) &
-      either-pass _ _ (⊎-elim (λ z. inl (under-pass _ _ 10 (omega (arith, z)))) (λ z. inr (under-pass _ _ 10 z)) (h .ahead)) &
-      either-pass _ _ (⊎-elim (λ z. inl (under-pass _ _ 7 z)) (λ z. inr (rw z (differ-pass mark 7))) (h .agrees)) & refl)
+      both-pass _ _ (⊎-elim (λ z. inl (under-pass _ _ 10 (omega (arith, z)))) (λ z. inr (under-pass _ _ 10 z)) (h .ahead)) &
+      both-pass _ _ (⊎-elim (λ z. inl (under-pass _ _ 7 z)) (λ z. inr (differ-pass _ _ 7 z)) (h .agrees)) & refl)
 
 -- falls off its routine
 module _ (r : Routine) (next : ℕ) where

@@ -16,13 +16,14 @@ use Rattle.stm8.specs.declared.Effect.{Effect}
 use Rattle.image.specs.declared.Limits.{Limits}
 use Rattle.image.specs.Image.{baseOf, countOf, startOf, endOf}
 use Rattle.image.specs.Rules.{ImageRules}
+use Rattle.image.proofs.Layouts.{begins-before-end}
 use Rattle.checker.specs.Depth.{after, falls}
 use Rattle.checker.specs.Sweep.{jumpCheck, callCheck, flowCheck, instructionCheck, moved, routineOf}
 use Rattle.checker.specs.declared.sweep.Progress.{Progress}
 use Rattle.acceptance.specs.Rules.{Start, Jumps, Calls, Reached, entered as first, fallen, jumped, StartAt, StartRules, RoutineRules}
 use Rattle.acceptance.proofs.Starts.{found-inside, same-found, start-low, start-high, next-start}
 use Rattle.acceptance.proofs.Checks.{reach-pass, agree-pass, entry-is, inside-pass, depth-pass, store-pass, jump-pass, off-end-pass}
-use Rattle.acceptance.proofs.Callees.{routine-some, callee-is, call-pass}
+use Rattle.acceptance.proofs.Callees.{callee-is, call-pass}
 use Rattle.acceptance.proofs.Flows.{flow-pass, MarkAfter, unchanged, target, mark-after}
 use Rattle.acceptance.proofs.Passing.{entered, passed-marks, Passes}
 use Rattle.acceptance.proofs.Swept.{Known, Swept, at-start}
@@ -151,7 +152,7 @@ module _ (image : List ℕ) (layout : ImageRules image) (limits : Limits) (needs
       store-pass limits deep (does .place) (g .store) &
       flow-passes &
       off-end-pass (routineOf image k) next (does .flow)
-      (λ t. start-high image k (routine-some image layout k inside) (g .fall t .start)) &
+      (λ t. start-high image k (begins-before-end image layout k inside) (g .fall t .start)) &
       refl
 
   pub passes : Passes image limits needs k marks p deep (meets .instruction) (meets .size)

@@ -12,32 +12,30 @@ use lib.ListN.{length, getD, drop, length-append, length-drop, length-replicate,
 use lib.Seq.{getD-append-add, getD-drop}
 use borrow.Author.Tests.{eqb-false, lt-ltb, le-ltb}
 use Rattle.numbers.proofs.Checking.{by-cond}
+use Rattle.numbers.proofs.Numbering.{Numbered, not-zero}
 use Rattle.image.specs.declared.Limits.{Limits}
 use Rattle.image.specs.declared.Validated.{Validated}
 use Rattle.image.specs.declared.Validated.the-variants.{Valid}
 use Rattle.image.specs.declared.Validated.the-variants as Validated
-use Rattle.image.specs.Image.{sizeOf}
+use Rattle.image.specs.Image.{sizeOf, layoutOf}
 use Rattle.image.specs.Validation.{refusal, validated}
+use Rattle.image.proofs.Validity.{answer-refused}
+use Rattle.image.proofs.RefusalNumbers.{validation-number}
 use Rattle.checker.specs.Check.{swept, verdict, codeMarks, codeChecked, checked}
 use Rattle.checker.specs.declared.sweep.Sweep.{Sweep}
 use Rattle.checker.specs.declared.Verdict.{Verdict}
 use Rattle.checker.specs.declared.Verdict.the-variants.{Accepted, Refused}
 use Rattle.acceptance.specs.Acceptance.{RefusedMarks, PastCode, RefusedAs}
 use Rattle.acceptance.proofs.WholeCode.{zeros}
-use Rattle.acceptance.proofs.RefusalNumbers.{Numbered, pass, fails, sweep-number, sweep-size, validation-number}
+use Rattle.acceptance.proofs.RefusalNumbers.{sweep-number, sweep-size}
 use Rattle.acceptance.proofs.Outcomes.{by-outcome}
 
--- a refusal's number
-not-zero : {low high number : ℕ} → Numbered low high number → (number ≡ 0 → ⊥) → (low ≤ number) × (number ≤ high)
-not-zero pass some = absurd (some refl)
-not-zero (fails above below) some = (above, below)
-
+-- before the sweep: 1 to 4
 validation-refused : (image : List ℕ) (limits : Limits) {number : ℕ} → validated image limits ≡ Validated.Refused number → (1 ≤ number) × (number ≤ 4)
 unfolding validated
-validation-refused image limits {number} =
-    by-cond (eqb (refusal image limits) 0)
-    (λ t e. let z : _≡_ {A = ℕ} 0 1 = cc in absurd (omega arith))
-    (λ t e. let same : refusal image limits ≡ number = cc in rw same at (not-zero (validation-number image limits) (eqb-false _ 0 t)))
+validation-refused image limits {number} e =
+    let refused = answer-refused (refusal image limits) (layoutOf image) number e in
+    not-zero (rw (refused .0) at (validation-number image limits)) (refused .1)
 
 -- from the sweep: 6 to 15, or 16 at offset 0
 verdict-refused : (image : List ℕ) (limits : Limits) (s : Sweep) {number offset : ℕ} → Numbered 6 15 (s .refusal) →

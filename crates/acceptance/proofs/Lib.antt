@@ -12,7 +12,6 @@ pub mod OneRoutine
 pub mod AllRoutines
 pub mod WholeCode
 pub mod Unique
-pub mod WellMarking
 pub mod RefusalNumbers
 pub mod Outcomes
 pub mod Accepting

@@ -12,11 +12,11 @@ use Rattle.numbers.proofs.Checking.{by-cond}
 use Rattle.image.specs.declared.Limits.{Limits}
 use Rattle.image.specs.Image.{countOf, startOf, endOf}
 use Rattle.image.specs.Rules.{ImageRules}
+use Rattle.image.proofs.Layouts.{begins-before-end}
 use Rattle.checker.specs.Sweep.{moved, startAt, startsFrom, entered as entering, routineOf}
 use Rattle.checker.specs.declared.sweep.Progress.{Progress}
 use Rattle.acceptance.specs.Rules.{Start, begins, entered, StartAt, StartRules, RoutineRules, Use, before, Greatest, countBelow}
 use Rattle.acceptance.proofs.Starts.{found-inside, same-found, start-low, start-high}
-use Rattle.acceptance.proofs.Callees.{routine-some}
 use Rattle.acceptance.proofs.Mapping.{rules-map}
 use Rattle.acceptance.proofs.Passing.{start-passed, start-passes}
 use Rattle.acceptance.proofs.Swept.{marked, needIn, Known, Done, Attained, Swept}
@@ -49,7 +49,7 @@ module _ (image : List ℕ) (layout : ImageRules image) (limits : Limits) (needs
         (g .mark)
 
     done : {o : ℕ} → Start image k o → Done image limits needs k marks p o
-    done s = swept .done s (omega (arith, start-high image k (routine-some image layout k inside) s))
+    done s = swept .done s (omega (arith, start-high image k (begins-before-end image layout k inside) s))
 
     start-rules : {o : ℕ} → Start image k o → StartRules image limits (depthIn marks) k o
     start-rules {o} s =
@@ -98,7 +98,7 @@ module _ (image : List ℕ) (layout : ImageRules image) (limits : Limits) (needs
   -- a place of the sweep, and the next one
   not-past : (marks : List ℕ) (p : Progress) → Swept image limits needs k given marks p → p .at ≤ endOf image k
   not-past marks p swept =
-      ⊎-elim (λ s. let h = start-high image k (routine-some image layout k inside) s in omega arith) (λ e. omega arith) (swept .place)
+      ⊎-elim (λ s. let h = start-high image k (begins-before-end image layout k inside) s in omega arith) (λ e. omega arith) (swept .place)
 
   swept-on : (marks : List ℕ) (p : Progress) → Swept image limits needs k given marks p → p .at < endOf image k →
       (x : Progress × List ℕ) → startAt image limits needs (routineOf image k) marks p ≡ x → x .0 .refusal ≡ 0 →
@@ -138,7 +138,7 @@ module _ (image : List ℕ) (layout : ImageRules image) (limits : Limits) (needs
           size = refl;
           outside = λ o out. refl;
           place = inl begins;
-          entry = record { low = omega arith; high = routine-some image layout k inside; mark = inr (refl, refl) };
+          entry = record { low = omega arith; high = begins-before-end image layout k inside; mark = inr (refl, refl) };
           done = λ s below. absurd (omega (arith, start-low image k s));
           exact = λ o low below m. absurd (omega arith);
           ahead = λ o low high m. absurd (omega (arith, clear o low));

@@ -1,13 +1,13 @@
--- The numbers of refusals: 1 to 4 before the sweep, 6 to 15 in it, whatever is swept. The sweep keeps the number of cells.
-use Prim.Native.Nat.{ℕ, zero, suc, _+_, _-_, _≤_}
+-- The numbers of refusals in the sweep: 6 to 15, whatever is swept. The sweep keeps the number of cells.
+use Prim.Native.Nat.{ℕ, zero, suc, _+_, _-_}
 use mathlib.Core.Path.{_≡_, refl, _∙_}
-use mathlib.Core.Bool.{Bool, true, false, cond, _&&_, and-eq-true-iff}
-use mathlib.Core.List.{List, [], _∷_, map}
-use lib.Dec.{eqb, ltb, leb}
-use borrow.Author.Tests.{leb-true}
+use mathlib.Core.Bool.{Bool, true, false, cond}
+use mathlib.Core.List.{List}
+use lib.Dec.{eqb, ltb}
 use lib.ListN.{length, getD, set, length-set, length-replicate}
-use Rattle.numbers.specs.Checks.{first, both, under, unless, differ}
+use Rattle.numbers.specs.Checks.{first}
 use Rattle.numbers.specs.Folds.{firstIn}
+use Rattle.numbers.proofs.Numbering.{Numbered, pass, fails-as, tested, _then_, either, under-numbered, unless-numbered, differ-numbered}
 use Rattle.stm8.specs.Decoding.{decoded}
 use Rattle.stm8.specs.Effects.{effect}
 use Rattle.stm8.specs.declared.Effect.{Effect}
@@ -17,10 +17,9 @@ use Rattle.stm8.specs.declared.Flow.{Flow}
 use Rattle.stm8.specs.declared.Flow.the-variants.{Next, Branch, Jump, Call, CallRelative, Return}
 use Rattle.stm8.specs.declared.Decoded.{Decoded}
 use Rattle.stm8.specs.declared.Decoded.the-variants.{Found, Outside, Truncated}
-use Rattle.image.specs.declared.Area.{Area}
 use Rattle.image.specs.declared.Limits.{Limits}
-use Rattle.image.specs.Image.{countOf, sizeOf, lengthsOf}
-use Rattle.image.specs.Validation.{areaCheck, apartCheck, limitsCheck, markCheck, versionCheck, lengthCheck, lengthsCheck, layoutCheck, refusal}
+use Rattle.image.specs.Image.{countOf, sizeOf}
+use Rattle.image.specs.Validation.{refusal}
 use Rattle.checker.specs.Depth.{falls, after}
 use Rattle.checker.specs.Sweep.{reachCheck, agreeCheck, insideCheck, returnCheck, depthCheck, storeCheck, jumpCheck, callCheck, flowCheck, offEndCheck, instructionCheck, moved, decodedAt, bytesAt, entry, startAt, startsFrom, routineOf, routineSwept, closed, routinesFrom, begun}
 use Rattle.checker.specs.Check.{swept}
@@ -28,47 +27,6 @@ use Rattle.checker.specs.declared.sweep.Routine.{Routine}
 use Rattle.checker.specs.declared.sweep.Progress.{Progress}
 use Rattle.checker.specs.declared.sweep.Sweep.{Sweep}
 use Rattle.acceptance.proofs.Flows.{target-length}
-
--- a check's number: 0, or from low to high
-pub data Numbered (low high : ℕ) : ℕ → Type 0 where
-  pass : Numbered low high 0
-  fails : {number : ℕ} → low ≤ number → number ≤ high → Numbered low high number
-
--- a number that is written out is compared by computing
-abbrev Within : ℕ → ℕ → ℕ → Type 0
-Within low high number = (leb low number && leb number high) ≡ true
-
-infixr 5 _then_
-module _ {low high : ℕ} where
-  fails-as : (number : ℕ) → Within low high number → Numbered low high number
-  fails-as number within =
-      let both = and-eq-true-iff (leb low number) (leb number high) .0 within in
-      fails (leb-true _ _ (both .0)) (leb-true _ _ (both .1))
-
-  by-test : (t : Bool) {a b : ℕ} → Numbered low high a → Numbered low high b → Numbered low high (cond t a b)
-  by-test true x y = x
-  by-test false x y = y
-
-  _then_ : {a b : ℕ} → Numbered low high a → Numbered low high b → Numbered low high (first a b)
-  unfolding first
-  _then_ {a} x y = by-test (eqb a 0) y x
-
-  either : (a : ℕ) {b : ℕ} → Numbered low high b → Numbered low high (both a b)
-  unfolding both
-  either a y = by-test (eqb a 0) pass y
-
-  module _ (number : ℕ) (within : Within low high number) where
-    under-numbered : (a b : ℕ) → Numbered low high (under a b number)
-    unfolding under
-    under-numbered a b = by-test (ltb a b) (fails-as number within) pass
-
-    unless-numbered : (holds : Bool) → Numbered low high (unless holds number)
-    unfolding unless
-    unless-numbered holds = by-test holds pass (fails-as number within)
-
-    differ-numbered : (a b : ℕ) → Numbered low high (differ a b number)
-    unfolding differ
-    differ-numbered a b = by-test (eqb a b) pass (fails-as number within)
 
 -- the sweep's
 abbrev Sweeping : ℕ → Type 0
@@ -125,7 +83,7 @@ unfolding instructionCheck offEndCheck firstIn
 instruction-numbered image limits marks r at depth n e =
     inside-numbered marks (n - 1) (at + 1) then depth-numbered e depth then store-numbered limits (e .place) depth then
     flow-numbered image marks r (at + n) (after e depth + 1) (e .flow) then
-    by-test (falls (e .flow)) (under-numbered 15 refl _ _) pass then pass
+    tested (falls (e .flow)) (under-numbered 15 refl _ _) pass then pass
 
 reach-numbered : (falling mark : ℕ) → Sweeping (first (reachCheck falling mark) (agreeCheck falling mark))
 unfolding reachCheck agreeCheck
@@ -198,40 +156,3 @@ module _ (image : List ℕ) (limits : Limits) where
   pub sweep-size : length (swept image limits .1) ≡ sizeOf image
   unfolding swept
   sweep-size = routines-counted (countOf image) _ begun pass .size ∙ length-replicate {A = ℕ} (sizeOf image) 0
-
--- those before the sweep
-abbrev Validating : ℕ → Type 0
-Validating number = Numbered 1 4 number
-
-area-numbered : (area : Area) → Validating (areaCheck area)
-unfolding areaCheck firstIn
-area-numbered area =
-    under-numbered 1 refl _ _ then under-numbered 1 refl _ _ then under-numbered 1 refl _ _ then pass
-
-limits-numbered : (limits : Limits) → Validating (limitsCheck limits)
-unfolding limitsCheck apartCheck firstIn
-limits-numbered limits =
-    area-numbered (limits .grant) then area-numbered (limits .stack) then under-numbered 1 refl _ _ then
-    either _ (unless-numbered 1 refl _) then pass
-
-mark-numbered : (image : List ℕ) → Validating (markCheck image)
-unfolding markCheck firstIn
-mark-numbered image =
-    under-numbered 2 refl _ _ then unless-numbered 2 refl _ then pass
-
-each-numbered : (lengths : List ℕ) → Validating (firstIn (map lengthCheck lengths))
-unfolding firstIn lengthCheck
-each-numbered [] = pass
-each-numbered (n ∷ lengths) = under-numbered 4 refl n 1 then each-numbered lengths
-
-layout-numbered : (image : List ℕ) → Validating (layoutCheck image)
-unfolding layoutCheck lengthsCheck firstIn
-layout-numbered image =
-    under-numbered 4 refl _ _ then under-numbered 4 refl _ _ then each-numbered (lengthsOf image) then
-    under-numbered 4 refl _ _ then under-numbered 4 refl _ _ then under-numbered 4 refl _ _ then
-    differ-numbered 4 refl _ _ then pass
-
-pub validation-number : (image : List ℕ) (limits : Limits) → Validating (refusal image limits)
-unfolding refusal versionCheck firstIn
-validation-number image limits =
-    limits-numbered limits then mark-numbered image then differ-numbered 3 refl _ _ then layout-numbered image then pass

@@ -1,15 +1,18 @@
 -- The starts of a routine lie inside it, one after the other: none inside an instruction.
 use Prim.Native.Nat.{ℕ, _+_, _-_, _<_, _≤_}
-use mathlib.Core.Path.{_≡_}
+use mathlib.Core.Path.{_≡_, sym, ap, _∙_}
 use mathlib.Core.Logic.{by-cases}
 use mathlib.Core.List.{List}
 use native.Mathlib.Decide.{ℕ-discrete, decLt}
 use native.Mathlib.Omega.{arith}
-use lib.ListN.{take, drop, length-take}
+use lib.ListN.{take, drop, take-append-drop, length-take}
+use Rattle.numbers.specs.Lists.{Bytes}
+use Rattle.numbers.proofs.Bytes.{bytes-taken, bytes-dropped}
+use Rattle.stm8.specs.Decoding.{decoded}
 use Rattle.stm8.specs.declared.Instruction.{Instruction}
 use Rattle.stm8.specs.declared.Decoded.{Decoded}
 use Rattle.stm8.specs.declared.Decoded.the-variants.{Found}
-use Rattle.stm8.proofs.Longer.{found-within}
+use Rattle.stm8.proofs.Longer.{longer, found-within}
 use Rattle.image.specs.Image.{codeOf, startOf, endOf}
 use Rattle.acceptance.specs.Rules.{instructionAt, Start, begins, follows}
 
@@ -24,6 +27,16 @@ module _ (image : List ℕ) (r : ℕ) where
       let s = take (endOf image r - o) (drop o (codeOf image)) in
       let w = found-within s i n f in
       (w .0, omega (arith, w, length-take (endOf image r - o) (drop o (codeOf image))))
+
+  -- the bytes after the routine do not change what stands at an offset
+  pub found-in-code : Bytes (codeOf image) → (o : ℕ) {n : ℕ} {i : Instruction} →
+      instructionAt image r o ≡ Found i n → decoded (drop o (codeOf image)) ≡ Found i n
+  unfolding instructionAt
+  found-in-code bytes o {n} {i} f =
+      let code = drop o (codeOf image) in
+      let size = endOf image r - o in
+      ap decoded (sym (take-append-drop size code)) ∙
+      longer (take size code) i n f (bytes-taken size code (bytes-dropped o (codeOf image) bytes)) (drop size code)
 
   pub start-low : {o : ℕ} → Start image r o → startOf image r ≤ o
   start-low begins = omega arith

@@ -1,18 +1,13 @@
 -- The checks at a start, for code that searches step by step.
 use Prim.Native.Nat.{ℕ, suc, _+_, _-_, _<_, _≤_}
-use mathlib.Core.Path.{_≡_, refl}
-use mathlib.Core.Bool.{Bool, true, false, cond}
-use mathlib.Core.List.{List, []}
+use mathlib.Core.Path.{_≡_}
+use mathlib.Core.List.{List}
 use native.Mathlib.Omega.{arith}
-use lib.Dec.{ltb}
 use lib.ListN.{getD}
 use borrow.Author.Tests.{eq-eqb, ne-eqb, lt-ltb, le-ltb}
 use Rattle.numbers.specs.Checks.{first, under}
 use Rattle.numbers.proofs.Folding.{passed}
 use Rattle.numbers.proofs.Checking.{under-zero}
-use Rattle.stm8.specs.Effects.{relative, bytesWide}
-use Rattle.stm8.specs.declared.Width.{Width}
-use Rattle.stm8.specs.declared.Width.the-variants.{Byte, Word}
 use Rattle.stm8.specs.declared.Effect.{Effect}
 use Rattle.image.specs.Image.{baseOf, startOf}
 use Rattle.checker.specs.Depth.{popped, after}
@@ -43,18 +38,6 @@ unfolding depthCheck
 depth-passed e depth h =
     let p = passed _ h in
     (under-zero depth (popped e) 10 (p .0), under-zero 255 depth 10 (p .1 .0), under-zero 255 (after e depth) 10 (p .1 .1 .0))
-
-pub wide-bound : (w : Width) (n : ℕ) → n ≡ bytesWide w → n ≤ 2
-wide-bound Byte n e = omega arith
-wide-bound Word n e = omega arith
-
-pub relative-bound : (next offset : ℕ) → relative next offset ≤ next + offset
-unfolding relative
-relative-bound next offset = go (ltb offset 128)
-  where
-    go : (t : Bool) → cond t (next + offset) (next + offset - 256) ≤ next + offset
-    go true = omega arith
-    go false = omega arith
 
 -- the search for a callee: the next routine, and none left
 module _ (image : List ℕ) (offset r j start : ℕ) (h : j < r) (e : start ≡ startOf image j) where

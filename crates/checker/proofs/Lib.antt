@@ -1,6 +1,5 @@
 pub mod Bytes
 pub mod Checks
-pub mod Layouts
 pub mod Starts
 pub mod Routines
 pub mod Verdicts

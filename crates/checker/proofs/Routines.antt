@@ -1,6 +1,6 @@
 -- The starts of a routine, and the routines, one after the other: what is left to sweep gives what the whole gives.
 use Prim.Native.Nat.{ℕ, zero, suc, _+_, _*_, _-_, _<_, _≤_}
-use mathlib.Core.Path.{_≡_, refl, sym, ap, _∙_}
+use mathlib.Core.Path.{_≡_, refl, sym, _∙_}
 use mathlib.Core.List.{List, [], _∷_}
 use native.Mathlib.Omega.{arith}
 use lib.ListN.{length, getD, set, replicate}
@@ -8,13 +8,11 @@ use lib.Seq.{getD-set-same, getD-set-other}
 use borrow.Author.Count.{below-more}
 use borrow.Author.Tests.{ne-eqb, eq-eqb, lt-ltb, le-ltb}
 use Rattle.image.specs.Image.{countOf, startOf, endOf}
-use Rattle.image.specs.Validation.{validated}
 use Rattle.image.specs.declared.Limits.{Limits}
 use Rattle.image.specs.declared.Layout.{Layout}
-use Rattle.image.specs.declared.Validated.the-variants.{Valid}
 use Rattle.image.proofs.Measuring.{start-next}
-use Rattle.checker.specs.Sweep.{startAt, startsFrom, entered, routineOf, routineSwept, closed, stopped, routinesFrom, begun}
-use Rattle.checker.specs.Internal.{Begins, NeedsBelow, Ready, Between, Ended, Swept}
+use Rattle.checker.specs.Sweep.{startAt, startsFrom, routineSwept, closed, stopped, routinesFrom, begun}
+use Rattle.checker.specs.Internal.{Begins, Between, Ended}
 use Rattle.checker.specs.declared.sweep.Routine.{Routine}
 use Rattle.checker.specs.declared.sweep.Progress.{Progress}
 use Rattle.checker.specs.declared.sweep.Sweep.{Sweep}

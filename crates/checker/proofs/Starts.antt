@@ -5,8 +5,8 @@ use mathlib.Core.Bool.{Bool, true, false, cond}
 use mathlib.Core.List.{List}
 use native.Mathlib.Omega.{arith}
 use lib.Dec.{eqb}
-use lib.ListN.{length, getD, set, take, drop, length-set, length-take}
-use borrow.Author.Tests.{eq-eqb, ne-eqb, eqb-true, eqb-false}
+use lib.ListN.{length, getD, set, drop, length-set, length-take}
+use borrow.Author.Tests.{ne-eqb, eqb-true, eqb-false}
 use Rattle.numbers.specs.Checks.{first}
 use Rattle.numbers.proofs.Checking.{by-cond}
 use Rattle.numbers.proofs.Folding.{passed}

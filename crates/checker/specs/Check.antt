@@ -1,11 +1,10 @@
 -- The whole check: 1 to 5, the sweep, and 16 last.
-use Prim.Native.Nat.{ℕ, _+_, _-_}
+use Prim.Native.Nat.{ℕ, _+_}
 use mathlib.Core.Bool.{cond}
 use mathlib.Core.List.{List, _++_}
 use lib.Dec.{eqb, ltb}
 use lib.ListN.{length, getD, drop, replicate}
 use Rattle.image.specs.declared.Limits.{Limits}
-use Rattle.image.specs.declared.Layout.{Layout}
 use Rattle.image.specs.declared.Validated.{Validated}
 use Rattle.image.specs.declared.Validated.the-variants.{Refused, Valid}
 use Rattle.image.specs.Validation.{validated}

@@ -3,8 +3,7 @@ use Prim.Native.Nat.{ℕ, _+_, _*_, _≤_, _<_}
 use mathlib.Core.Path.{_≡_}
 use mathlib.Core.List.{List}
 use lib.ListN.{length, getD}
-use Rattle.stm8.specs.OpcodeMap.{Plain, After72, After90}
-use Rattle.stm8.specs.Decoding.{lengths}
+use Rattle.stm8.specs.Decoding.{Tables}
 use Rattle.stm8.specs.Effects.{relative}
 use Rattle.stm8.specs.declared.Flow.{Flow}
 use Rattle.stm8.specs.declared.Flow.the-variants.{Next, Branch, Jump, Call, CallRelative, Return}
@@ -17,12 +16,6 @@ use Rattle.checker.specs.Sweep.{callee}
 use Rattle.checker.specs.declared.sweep.Routine.{Routine}
 use Rattle.checker.specs.declared.sweep.Progress.{Progress}
 use Rattle.checker.specs.declared.sweep.Sweep.{Sweep}
-
--- the three tables of lengths
-pub record Tables (plain after72 after90 : List ℕ) : Type 0 where
-  pub plain-is : plain ≡ lengths Plain
-  pub after72-is : after72 ≡ lengths After72
-  pub after90-is : after90 ≡ lengths After90
 
 -- where the routines before r begin
 abbrev pub Begins : List ℕ → List ℕ → ℕ → Type 0

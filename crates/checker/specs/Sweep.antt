@@ -19,7 +19,7 @@ use Rattle.stm8.specs.declared.Decoded.the-variants.{Found, Outside, Truncated}
 use Rattle.image.specs.declared.Limits.{Limits}
 use Rattle.image.specs.Access.{granted}
 use Rattle.image.specs.Image.{baseOf, codeOf, startOf, endOf}
-use Rattle.checker.specs.Depth.{popped, pushed, after, falls}
+use Rattle.checker.specs.Depth.{popped, after, falls}
 use Rattle.checker.specs.declared.sweep.Routine.{Routine}
 use Rattle.checker.specs.declared.sweep.Progress.{Progress}
 use Rattle.checker.specs.declared.sweep.Sweep.{Sweep}

@@ -2,10 +2,9 @@
 ghost use mathlib.Core.Path.{_≡_};
 ghost use Prim.Native.Nat.{_+_, _≤_, _<_};
 ghost use lib.ListN.{length};
-ghost use Rattle.stm8.specs.Decoding.{decoded};
+ghost use Rattle.stm8.specs.Decoding.{decoded, Tables};
 ghost use Rattle.image.specs.Image.{codeAt};
 ghost use Rattle.checker.specs.Sweep.{bytesAt};
-ghost use Rattle.checker.specs.Internal.{Tables};
 use crate::sweep::Routine;
 use decoder::decode_by;
 use stm8::Decoded;

@@ -4,7 +4,6 @@ ghost use mathlib.Core.Bool.{cond};
 ghost use mathlib.Core.List.{List};
 ghost use Prim.Native.Nat.{ℕ, _+_, _≤_, _<_};
 ghost use lib.ListN.{length};
-ghost use Rattle.stm8.specs.Decoding.{decodingNumber};
 ghost use Rattle.stm8.specs.declared.Decoded.the-variants.{Found};
 ghost use Rattle.image.specs.Image.{baseOf, countOf, endOf};
 ghost use Rattle.checker.specs.Depth.{falls as fallsBy, after as afterOf};
@@ -22,6 +21,7 @@ use crate::rules::called_by;
 use crate::rules::instruction_check;
 use crate::rules::reach_check;
 use crate::rules::target;
+use decoder::decoding_number;
 use effects::effect_of;
 use image::Layout;
 use image::Limits;
@@ -131,17 +131,6 @@ fn moved(
         falls: falling(flow, after),
         need: larger(need, call_need(needs, callee, depth, flow)),
         count: p.count + 1,
-    }
-}
-
-// 8 or 9 where the bytes are no instruction.
-fn decoding_number(d: Decoded) -> u8
-    ensures { λ r. ⌜ r ≡ decodingNumber d ⌝ }
-{
-    match d {
-        Decoded::Found(_, _) => 0,
-        Decoded::Outside => 8,
-        Decoded::Truncated => 9,
     }
 }
 

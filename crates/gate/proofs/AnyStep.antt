@@ -37,7 +37,7 @@ no-refusal image limits areas layout = sym (number image limits) ∙ ap validati
 -- with memory of 32,768 bytes a step is refused as the image and limits are
 step-refusal : (image : List ℕ) (limits : Limits) (memory : List ℕ) → length memory ≡ 32768 → stepRefusal image limits memory ≡ refusal image limits
 unfolding stepRefusal
-step-refusal image limits memory size = rw (size, differ-pass) (first-pass (refusal image limits))
+step-refusal image limits memory size = rw (differ-pass (length memory) 32768 17 size) (first-pass (refusal image limits))
 
 module _ (image : List ℕ) (limits : Limits) (regs : Registers) (memory : List ℕ) where
   -- a refused step, and what it feeds to the book

@@ -1,6 +1,6 @@
 -- What the guarantee rests on: local facts of the code, whatever order of checks gave them. `At r o d` says that offset o is a start of routine r, at
 -- depth d; each routine has a need.
-use Prim.Native.Nat.{ℕ, _+_, _-_, _≤_, _<_}
+use Prim.Native.Nat.{ℕ, _+_, _≤_, _<_}
 use mathlib.Core.Path.{_≡_, refl}
 use mathlib.Core.Bool.{true, false}
 use mathlib.Core.List.{List}

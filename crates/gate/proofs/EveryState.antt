@@ -1,7 +1,7 @@
 -- No state is left out of the history: a run has one for each step that it makes and one for its end, a step has one.
 use Prim.Native.Nat.{ℕ, zero, suc, _+_}
 use mathlib.Core.Path.{_≡_, refl, ap}
-use mathlib.Core.List.{List, [], _∷_}
+use mathlib.Core.List.{[], _∷_}
 use mathlib.Core.Option.{none}
 use lib.ListN.{length, length-append}
 use Rattle.machine.specs.Run.{ran}

@@ -1,8 +1,9 @@
 -- The guarantee: after an accepted start, whatever list of steps and runs follows, the claim holds in every state of its history.
-use Prim.Native.Nat.{ℕ, _<_}
+use Prim.Native.Nat.{ℕ}
 use mathlib.Core.Path.{_≡_}
 use mathlib.Core.List.{List}
-use lib.ListN.{length, getD}
+use lib.ListN.{length}
+use Rattle.numbers.specs.Lists.{Bytes}
 use Rattle.image.specs.declared.Limits.{Limits}
 use Rattle.checker.specs.declared.Verdict.the-variants.{Accepted}
 use Rattle.acceptance.specs.Rules.{Rules, reportedNeed}
@@ -15,7 +16,7 @@ use Rattle.gate.proofs.AnyList.{from-good}
 use Rattle.gate.proofs.Starting.{accepted-start, start-tracked}
 
 -- of an image that meets document 01's rules
-pub from-rules : (image : List ℕ) → ((k : ℕ) → getD image k 0 < 256) → (limits : Limits) (depth need : ℕ → ℕ) → Rules image limits depth need →
+pub from-rules : (image : List ℕ) → Bytes image → (limits : Limits) (depth need : ℕ → ℕ) → Rules image limits depth need →
     (memory : List ℕ) → length memory ≡ 32768 → (a x y cc : ℕ) →
     (calls : List Request) → All (Allowed (record { image = image; limits = limits })) calls →
     All (Holds image limits (reportedNeed image need) memory)
@@ -26,7 +27,7 @@ from-rules image bytes limits depth need rules memory size a x y cc calls allowe
     (start-tracked image limits (ListedAt image depth) need code memory size a x y cc) calls allowed
 
 -- of an image that the check accepts
-pub guarantee : (image : List ℕ) → ((k : ℕ) → getD image k 0 < 256) → (limits : Limits) (marks memory : List ℕ) (a x y cc need count : ℕ) →
+pub guarantee : (image : List ℕ) → Bytes image → (limits : Limits) (marks memory : List ℕ) (a x y cc need count : ℕ) →
     started image limits marks memory a x y cc .started .verdict ≡ Accepted need count →
     (calls : List Request) → All (Allowed (record { image = image; limits = limits })) calls →
     All (Holds image limits need memory) (history calls (pointStarted (started image limits marks memory a x y cc)))

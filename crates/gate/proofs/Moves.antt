@@ -1,5 +1,5 @@
 -- What an instruction moves and stores where a routine stands: no trap stops it, and it writes to the grant and to the routine's own stack bytes alone.
-use Prim.Native.Nat.{ℕ, _+_, _-_, _≤_, _<_}
+use Prim.Native.Nat.{ℕ, _+_, _≤_, _<_}
 use mathlib.Core.Path.{_≡_, refl}
 use mathlib.Core.List.{List}
 use native.Mathlib.Omega.{arith}
@@ -7,17 +7,16 @@ use lib.ListN.{getD}
 use Rattle.numbers.proofs.Checking.{under-pass, unless-pass}
 use Rattle.numbers.proofs.Folding.{_&_}
 use Rattle.stm8.specs.Effects.{bytesWide}
-use Rattle.stm8.specs.declared.Width.{Width}
-use Rattle.stm8.specs.declared.Width.the-variants.{Byte, Word}
+use Rattle.stm8.proofs.EffectLaws.{wide-some}
 use Rattle.stm8.specs.declared.Place.{Place}
 use Rattle.stm8.specs.declared.Place.the-variants.{Nowhere, Direct, OnStack, Pushed}
 use Rattle.stm8.specs.declared.Effect.{Effect}
 use Rattle.image.specs.declared.Limits.{Limits}
 use Rattle.image.specs.Rules.{Within, LimitsRules}
+use Rattle.image.proofs.Granting.{ends-granted}
 use Rattle.machine.specs.Step.{moveTrap, storeTrap, spAfter, bytesOfWidth, memoryAfter}
 use Rattle.machine.proofs.Stores.{sets-other, bytes-length, size-kept}
 use Rattle.acceptance.specs.Rules.{StoreRules}
-use Rattle.acceptance.proofs.Checks.{ends-granted}
 use Rattle.gate.specs.Guarantee.{Unchanged}
 use Rattle.gate.proofs.Forms.{PushesOwn}
 use Rattle.gate.proofs.Frames.{Agree}
@@ -29,20 +28,16 @@ pub record Room (limits : Limits) (total need sp d : ℕ) : Type 0 where
   pub depth : d ≤ need
   pub area : limits .stack .low + total ≤ limits .stack .high + 1
 
-width-some : (w : Width) → 1 ≤ bytesWide w
-width-some Byte = omega arith
-width-some Word = omega arith
-
 module _ (limits : Limits) (areas : LimitsRules limits) (total need sp d : ℕ) (room : Room limits total need sp d) where
   -- 25 is not due
   pub store-passes : (place : Place) → StoreRules limits d place → storeTrap limits sp place ≡ 0
   unfolding storeTrap
   store-passes Nowhere h = refl
   store-passes (Direct address w) h =
-      let some = width-some w in
+      let some = wide-some w in
       rw (ends-granted limits address (bytesWide w) (h .0) (omega (arith, h .1))) (unless-pass 25)
   store-passes (OnStack f w) h =
-      under-pass f 1 25 (h .0) & under-pass (limits .stack .high + 1) (sp + f + bytesWide w) 25 (omega (arith, h .1, width-some w))
+      under-pass f 1 25 (h .0) & under-pass (limits .stack .high + 1) (sp + f + bytesWide w) 25 (omega (arith, h .1, wide-some w))
   store-passes (Pushed w) h = refl
 
   module _ (e : Effect) (own : e .pops ≤ d) (fits : d + e .pushes ≤ need + e .pops) where
@@ -59,10 +54,10 @@ module _ (limits : Limits) (areas : LimitsRules limits) (total need sp d : ℕ) 
     kept Nowhere value memory h p address grant stack = refl
     kept (Direct a w) value memory h p address grant stack =
         sets-other (bytesOfWidth w value) memory a address
-        (λ low high. grant (record { above = omega (arith, h .0); below = omega (arith, h .1, bytes-length w value, width-some w) }))
+        (λ low high. grant (record { above = omega (arith, h .0); below = omega (arith, h .1, bytes-length w value, wide-some w) }))
     kept (OnStack f w) value memory h p address grant stack =
         sets-other (bytesOfWidth w value) memory (sp + f) address
-        (λ low high. stack (omega arith) (omega (arith, h .1, bytes-length w value, width-some w)))
+        (λ low high. stack (omega arith) (omega (arith, h .1, bytes-length w value, wide-some w)))
     kept (Pushed w) value memory h p address grant stack =
         sets-other (bytesOfWidth w value) memory (spAfter sp e + 1) address
         (λ low high. stack (omega (arith, areas .stackLow)) (omega (arith, areas .stackLow, bytes-length w value)))

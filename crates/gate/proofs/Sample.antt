@@ -2,14 +2,15 @@
 --
 --     8000 PUSH A; LD ($01,SP),A; POP A; RET
 --     8005 CALL $8000; LD $10,A; DEC A; JRNE $8005; RET
-use Prim.Native.Nat.{ℕ, zero, suc, _<_}
+use Prim.Native.Nat.{ℕ, zero, suc}
 use mathlib.Core.Path.{_≡_, refl}
 use mathlib.Core.Bool.{Bool, true, false, cond, false≢true}
 use mathlib.Core.List.{List, [], _∷_}
 use native.Mathlib.Omega.{arith}
 use lib.Dec.{ltb}
-use lib.ListN.{length, getD, replicate}
+use lib.ListN.{length, replicate}
 use borrow.Author.Tests.{eq-eqb, ltb-true}
+use Rattle.numbers.specs.Lists.{Bytes}
 use Rattle.numbers.specs.Checks as Checks
 use Rattle.numbers.specs.Words as Words
 use Rattle.numbers.specs.Folds as Folds
@@ -55,7 +56,7 @@ abbrev bytes : List ℕ → Bool
 bytes [] = true
 bytes (b ∷ rest) = cond (ltb b 256) (bytes rest) false
 
-bytes-below : (s : List ℕ) → bytes s ≡ true → (k : ℕ) → getD s k 0 < 256
+bytes-below : (s : List ℕ) → bytes s ≡ true → Bytes s
 bytes-below [] e k = omega arith
 bytes-below (b ∷ rest) e zero = by-cond (ltb b 256) (λ t u. ltb-true b 256 t) (λ t u. absurd (false≢true u)) e
 bytes-below (b ∷ rest) e (suc k) = by-cond (ltb b 256) (λ t u. bytes-below rest u k) (λ t u. absurd (false≢true u)) e

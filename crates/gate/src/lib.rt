@@ -9,6 +9,8 @@ pub use checker::Verdict;
 pub use checker::check;
 pub use image::Area;
 pub use image::Limits;
+use image::base_of;
+use image::count_of;
 use image::routine_length;
 pub use machine::Ran;
 pub use machine::Registers;
@@ -17,8 +19,6 @@ pub use machine::StepAnswer;
 pub use machine::Stepped;
 pub use machine::run;
 pub use machine::step;
-use numbers::words::byte_at;
-use numbers::words::word_at;
 
 // What starting answers: the check's verdict, or 17, and the registers to go on from, all 0 where it is refused.
 pub struct Started {
@@ -46,8 +46,8 @@ fn main_address(image: &[u8]) -> u32
     requires { ⌜ ImageRules (now image) ⌝ }
     ensures { λ r. ⌜ r ≡ baseOf (now (image .entry)) + startOf (now (image .entry)) (mainOf (now (image .entry))) ⌝ }
 {
-    let base = word_at(image, 5) as usize;
-    let count = byte_at(image, 7) as usize;
+    let base = base_of(image) as usize;
+    let count = count_of(image) as usize;
     let main = routine_length(image, count - 1) as usize;
     (base + image.len() - 8 - 2 * count - main) as u32
 }

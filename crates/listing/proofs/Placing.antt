@@ -22,7 +22,7 @@ use Rattle.image.specs.Validation.{validated}
 use Rattle.image.specs.declared.Limits.{Limits}
 use Rattle.image.specs.declared.Layout.{Layout}
 use Rattle.image.specs.declared.Validated.the-variants as Validated
-use Rattle.image.proofs.ValidLayout.{valid-bounds}
+use Rattle.image.proofs.Layouts.{valid-bounds}
 use Rattle.checker.specs.Check.{checked}
 use Rattle.checker.specs.declared.Verdict.{Verdict}
 use Rattle.checker.specs.declared.Verdict.the-variants.{Accepted, Refused}

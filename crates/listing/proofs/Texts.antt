@@ -4,6 +4,7 @@ use mathlib.Core.Path.{_≡_}
 use mathlib.Core.Logic.{⊎-elim}
 use mathlib.Core.List.{List}
 use lib.ListN.{getD, drop}
+use Rattle.numbers.specs.Lists.{Bytes}
 use Rattle.stm8.specs.Decoding.{decoded}
 use Rattle.stm8.specs.declared.Instruction.{Instruction}
 use Rattle.stm8.specs.declared.Decoded.the-variants.{Found}
@@ -12,9 +13,9 @@ use Rattle.image.specs.declared.Limits.{Limits}
 use Rattle.checker.specs.Check.{checked}
 use Rattle.checker.specs.declared.Verdict.the-variants.{Accepted}
 use Rattle.acceptance.proofs.Accepting.{accept-sound}
-use Rattle.acceptance.proofs.WellMarking.{found-in-code}
+use Rattle.acceptance.proofs.Starts.{found-in-code}
 
-module _ (image : List ℕ) (limits : Limits) (marks : List ℕ) (bytes : (k : ℕ) → getD (codeOf image) k 0 < 256) where
+module _ (image : List ℕ) (limits : Limits) (marks : List ℕ) (bytes : Bytes (codeOf image)) where
   pub start-text : {need count : ℕ} → checked image limits marks .0 ≡ Accepted need count → (offset : ℕ) → offset < sizeOf image →
       (getD (checked image limits marks .1) offset 0 ≡ 0 → ⊥) →
       (i : Instruction) × (size : ℕ) × (decoded (drop offset (codeOf image)) ≡ Found i size)
@@ -23,5 +24,5 @@ module _ (image : List ℕ) (limits : Limits) (marks : List ℕ) (bytes : (k : �
       ⊎-elim (λ none. absurd (some none))
       (λ start.
       let rules = sound .0 .rules .routines (start .0) (start .1) .starts (start .2) in
-      (rules .instruction, rules .size, found-in-code image bytes (start .0) offset (rules .found)))
+      (rules .instruction, rules .size, found-in-code image (start .0) bytes offset (rules .found)))
       (sound .1 .others offset below)

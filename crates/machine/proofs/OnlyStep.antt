@@ -1,11 +1,11 @@
 -- A step is a run of one step.
-use Prim.Native.Nat.{ℕ, zero}
+use Prim.Native.Nat.{ℕ}
 use mathlib.Core.Path.{_≡_, refl, ap, _∙_}
 use mathlib.Core.List.{List}
 use lib.Dec.{eqb}
 use Rattle.image.specs.declared.Limits.{Limits}
 use Rattle.machine.specs.Step.{Result, result, stepRefusal, stepped}
-use Rattle.machine.specs.Run.{ended, oneMore, afterStep, noStepsLeft, ran, onlyStep}
+use Rattle.machine.specs.Run.{afterStep, noStepsLeft, ran, onlyStep}
 use Rattle.machine.specs.declared.Registers.{Registers}
 use Rattle.machine.specs.declared.StepAnswer.{StepAnswer}
 use Rattle.machine.specs.declared.StepAnswer.the-variants.{Made, Finished, Trap, Refused}

@@ -1,11 +1,11 @@
 -- The three ways of a data read.
-use Prim.Native.Nat.{ℕ, _+_, _*_, _-_, _≤_, _<_}
-use mathlib.Core.Path.{_≡_, refl, _∙_, sym, ap}
+use Prim.Native.Nat.{ℕ, _+_, _-_, _≤_, _<_}
+use mathlib.Core.Path.{_≡_}
 use mathlib.Core.List.{List}
 use borrow.Author.Tests.{lt-ltb, le-ltb}
-use lib.ListN.{getD, drop}
+use lib.ListN.{getD}
 use lib.Seq.{getD-drop}
-use Rattle.image.specs.Image.{baseOf, countOf, codeAt, codeOf}
+use Rattle.image.specs.Image.{baseOf, codeAt, codeOf}
 use Rattle.machine.specs.Reading.{readByte}
 
 module _ (image memory : List ℕ) (address : ℕ) where
@@ -17,7 +17,7 @@ module _ (image memory : List ℕ) (address : ℕ) where
   unfolding readByte
   below-code h base e k = rw (le-ltb address 0x8000 h, ← e, lt-ltb address base k)
 
-  pub from-code : 0x8000 ≤ address → (base count : ℕ) → base ≡ baseOf image → count ≡ countOf image → base ≤ address →
-      readByte image memory address ≡ getD image (8 + 2 * count + (address - base)) 0
-  unfolding readByte codeOf codeAt
-  from-code h base count e f k = rw (le-ltb address 0x8000 h, ← e, le-ltb address base k, getD-drop, ← f)
+  pub from-code : 0x8000 ≤ address → (base code : ℕ) → base ≡ baseOf image → code ≡ codeAt image → base ≤ address →
+      readByte image memory address ≡ getD image (code + (address - base)) 0
+  unfolding readByte codeOf
+  from-code h base code e f k = rw (le-ltb address 0x8000 h, ← e, le-ltb address base k, getD-drop, ← f)

@@ -1,6 +1,6 @@
 -- A run, one step at a time: what its loop has still to do, with the steps already made.
 use Prim.Native.Nat.{ℕ, zero, suc, _+_}
-use mathlib.Core.Path.{_≡_, refl, sym, ap, _∙_, subst}
+use mathlib.Core.Path.{_≡_, sym, ap, _∙_, subst}
 use mathlib.Core.Bool.{cond}
 use mathlib.Core.List.{List}
 use native.Mathlib.Numerals.{add-one}
@@ -9,10 +9,9 @@ use native.Mathlib.Omega.{arith}
 use lib.Dec.{eqb}
 use borrow.Author.Tests.{eq-eqb, ne-eqb}
 use Rattle.image.specs.declared.Limits.{Limits}
-use Rattle.machine.specs.Step.{Result, result, stepValid, stepRefusal, stepped}
+use Rattle.machine.specs.Step.{Result, result, stepValid, stepRefusal}
 use Rattle.machine.specs.Run.{noStepsLeft, afterStep, oneMore, ran}
 use Rattle.machine.specs.declared.Registers.{Registers}
-use Rattle.machine.specs.declared.StepAnswer.{StepAnswer}
 use Rattle.machine.specs.declared.StepAnswer.the-variants as Step
 use Rattle.machine.specs.declared.Stepped.{Stepped}
 use Rattle.machine.specs.declared.RunAnswer.{RunAnswer}

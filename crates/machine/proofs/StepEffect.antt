@@ -30,7 +30,7 @@ use Rattle.image.specs.declared.Limits.{Limits}
 use Rattle.image.specs.Image.{baseOf, codeOf, layoutOf}
 use Rattle.image.specs.Rules.{LimitsRules}
 use Rattle.image.specs.Validation.{validated}
-use Rattle.image.proofs.ValidLayout.{valid-limits}
+use Rattle.image.proofs.Layouts.{valid-limits}
 use Rattle.machine.specs.Reading.{readWord}
 use Rattle.machine.specs.Computing.{computed}
 use Rattle.machine.specs.Step.{Result, result, spTrap, pcTrap, moveTrap, callTrap, effectTrap, calls, spAfter, pcAfter, bytesOfWidth, memoryAfter, made, decodedStep, stepValid, stepRefusal, stepped}

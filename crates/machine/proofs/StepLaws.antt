@@ -1,23 +1,19 @@
 -- The ways through a step, each a law with plain hypotheses.
 use Prim.Native.Nat.{ℕ, _+_, _-_, _≤_, _<_}
 use mathlib.Core.Path.{_≡_, refl, sym, ap, _∙_}
-use mathlib.Core.Bool.{Bool, true, false, cond}
+use mathlib.Core.Bool.{true, false}
 use mathlib.Core.List.{List, [], _∷_}
 use mathlib.Core.Logic.{⊎-elim}
 use native.Mathlib.Omega.{arith}
-use lib.Dec.{eqb, ltb}
-use lib.ListN.{length, getD, drop}
+use lib.Dec.{eqb}
+use lib.ListN.{length, drop}
 use lib.Seq.{drop-drop}
-use borrow.Author.Tests.{eqb-true, eqb-false, ne-eqb}
+use borrow.Author.Tests.{ne-eqb}
 use Rattle.numbers.specs.Checks.{first, under}
 use Rattle.numbers.proofs.Checking.{first-zero, under-zero}
 use Rattle.numbers.proofs.Folding.{passed}
-use Rattle.stm8.specs.OpcodeMap.{Page, Plain, After72, After90}
-use Rattle.stm8.specs.Decoding.{pageOf, lengths, tables, decoded, decodedBy}
-use Rattle.stm8.proofs.Lengths.{in-page}
-use Rattle.stm8.specs.Effects.{relative, bytesWide, effect}
-use Rattle.stm8.specs.declared.Width.{Width}
-use Rattle.stm8.specs.declared.Width.the-variants.{Byte, Word}
+use Rattle.stm8.specs.Decoding.{decoded}
+use Rattle.stm8.specs.Effects.{effect}
 use Rattle.stm8.specs.declared.Effect.{Effect}
 use Rattle.stm8.specs.declared.Instruction.{Instruction}
 use Rattle.stm8.specs.declared.Decoded.{Decoded}
@@ -27,7 +23,9 @@ use Rattle.image.specs.declared.Layout.{Layout}
 use Rattle.image.specs.declared.Validated.the-variants as Validated
 use Rattle.image.specs.Image.{baseOf, codeAt, codeOf, layoutOf}
 use Rattle.image.specs.Validation.{answer, validated}
-use Rattle.image.proofs.ValidLayout.{ValidLayout, valid-bounds}
+use Rattle.image.specs.ValidLayout.{ValidLayout}
+use Rattle.image.proofs.Layouts.{valid-bounds}
+use Rattle.image.proofs.Validity.{answer-refused, answer-valid}
 use Rattle.machine.specs.Computing.{computed}
 use Rattle.machine.specs.Step.{result, spTrap, pcTrap, moveTrap, effectTrap, memoryAfter, registersAfter, made, decodingTrap, decodedStep, stepValid, stepRefusal, stepped}
 use Rattle.machine.specs.declared.Registers.{Registers}
@@ -89,29 +87,15 @@ undecoded image limits regs memory Truncated h = refl
 
 -- what validation answers
 module _ (image : List ℕ) (limits : Limits) (memory : List ℕ) where
-  refused-as : (n : ℕ) (layout : Layout) (number : ℕ) → answer n layout ≡ Validated.Refused number → (n ≡ number) × (number ≡ 0 → ⊥)
-  refused-as n layout number = go (eqb n 0) refl
-    where
-      go : (t : Bool) → eqb n 0 ≡ t → cond t (Validated.Valid layout) (Validated.Refused n) ≡ Validated.Refused number → (n ≡ number) × (number ≡ 0 → ⊥)
-      go true p e = let z : _≡_ {A = ℕ} 0 1 = cc in absurd (omega arith)
-      go false p e = let same : n ≡ number = cc in (same, λ z. eqb-false n 0 p (same ∙ z))
-
-  valid-as : (n : ℕ) (layout found : Layout) → answer n layout ≡ Validated.Valid found → (n ≡ 0) × (found ≡ layout)
-  valid-as n layout found = go (eqb n 0) refl
-    where
-      go : (t : Bool) → eqb n 0 ≡ t → cond t (Validated.Valid layout) (Validated.Refused n) ≡ Validated.Valid found → (n ≡ 0) × (found ≡ layout)
-      go true p e = let same : found ≡ layout = cc in (eqb-true n 0 p, same)
-      go false p e = let z : _≡_ {A = ℕ} 0 1 = cc in absurd (omega arith)
-
   pub refuses : (number : ℕ) → answer (stepRefusal image limits memory) (layoutOf image) ≡ Validated.Refused number →
       (stepRefusal image limits memory ≡ number) × (number ≡ 0 → ⊥)
-  refuses number e = refused-as _ _ number e
+  refuses number e = answer-refused (stepRefusal image limits memory) (layoutOf image) number e
 
   pub accepts : (layout : Layout) → answer (stepRefusal image limits memory) (layoutOf image) ≡ Validated.Valid layout →
       (stepRefusal image limits memory ≡ 0) × ValidLayout image layout
   unfolding stepRefusal validated
   accepts layout e =
-      let is = valid-as _ _ layout e in
+      let is = answer-valid (stepRefusal image limits memory) (layoutOf image) layout e in
       let valid : validated image limits ≡ Validated.Valid layout = rw (first-zero _ _ (is .0) .1) (ap Validated.Valid (sym (is .1))) in
       (is .0, valid-bounds image limits layout valid)
 
@@ -144,30 +128,7 @@ module _ (image : List ℕ) (layout : Layout) (valid : ValidLayout image layout)
   pub next-small : (n : ℕ) → n ≤ 5 → pc + n < 0x1000000
   next-small n few = let bounds = pc-inside image layout (valid .is) pc inside in omega (arith, valid .top)
 
--- decoding by tables that hold the lengths
-module _ (plain after72 after90 : List ℕ) (p : plain ≡ lengths Plain) (a : after72 ≡ lengths After72) (b : after90 ≡ lengths After90) where
-  hold : (page : Page) → tables plain after72 after90 page ≡ lengths page
-  hold Plain = p
-  hold After72 = a
-  hold After90 = b
-
-  pub decoded-by-tables : (s : List ℕ) → ((k : ℕ) → getD s k 0 < 256) → decodedBy (tables plain after72 after90) s ≡ decoded s
-  unfolding decodedBy decoded
-  decoded-by-tables s bytes = in-page s bytes (pageOf (getD s 0 0)) (tables plain after72 after90) (hold (pageOf (getD s 0 0)))
-
 -- no trap 24: SP with the pops is inside the stack
 pub pops-fit : (limits : Limits) (sp next : ℕ) (e : Effect) → effectTrap limits sp next e ≡ 0 → sp + e .pops ≤ limits .stack .high
 unfolding effectTrap moveTrap
 pops-fit limits sp next e none = under-zero _ _ 23 (first-zero _ _ (passed _ none .0) .0)
-
-pub relative-most : (next offset : ℕ) → relative next offset ≤ next + offset
-unfolding relative
-relative-most next offset = go (ltb offset 128)
-  where
-    go : (t : Bool) → cond t (next + offset) (next + offset - 256) ≤ next + offset
-    go true = omega arith
-    go false = omega arith
-
-pub wide-most : (w : Width) → bytesWide w ≤ 2
-wide-most Byte = omega arith
-wide-most Word = omega arith

@@ -1,7 +1,7 @@
 -- What an instruction computes: A, X, Y and CC after it, the value that it stores, and whether its condition holds. What it moves (SP, PC
 -- and memory) is its effect's.
 use Prim.Native.Nat.{ℕ, _+_, _%_}
-use mathlib.Core.Bool.{Bool, true, false, not}
+use mathlib.Core.Bool.{Bool, false, not}
 use mathlib.Core.List.{List}
 use Rattle.numbers.specs.Words.{word, high, low}
 use Rattle.stm8.specs.declared.Register.{Register}

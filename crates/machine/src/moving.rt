@@ -1,7 +1,6 @@
 // What an instruction moves: SP, PC and memory, by its effect.
 ghost use mathlib.Core.Path.{_≡_};
 ghost use Prim.Native.Nat.{_+_, _<_};
-ghost use lib.ListN.{set};
 ghost use lib.Seq.{sets};
 ghost use Rattle.stm8.specs.Effects.{relative as relativeTo};
 ghost use Rattle.machine.specs.Step.{result, bytesOfWidth, spAfter, pcAfter, memoryAfter, registersAfter};
@@ -13,19 +12,11 @@ use crate::reading::read_word;
 use effects::relative;
 use numbers::words::high;
 use numbers::words::low;
+use numbers::words::put_byte;
 use stm8::Effect;
 use stm8::Flow;
 use stm8::Place;
 use stm8::Width;
-
-// A byte where the memory has the address.
-fn put_byte(memory: &mut [u8], at: usize, byte: u8)
-    ensures { λ r. ⌜ now (memory .exit) ≡ set (now (memory .entry)) at byte ⌝ }
-{
-    if at < memory.len() {
-        memory[at] = byte;
-    }
-}
 
 // The bytes of a value, high byte first.
 fn put(memory: &mut [u8], at: u32, w: Width, value: u16)

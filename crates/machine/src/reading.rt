@@ -2,9 +2,10 @@
 ghost use mathlib.Core.Path.{_≡_};
 ghost use Prim.Native.Nat.{_<_};
 ghost use Rattle.machine.specs.Reading.{readByte, readWord};
+use image::base_of;
+use image::code_at;
 use numbers::words::byte_at;
 use numbers::words::word;
-use numbers::words::word_at;
 
 // 0000 to 7FFF from memory, the image's own addresses from its code, any other address gives 00.
 pub fn read_byte(image: &[u8], memory: &[u8], address: u32) -> u8
@@ -14,12 +15,11 @@ pub fn read_byte(image: &[u8], memory: &[u8], address: u32) -> u8
     if at < 0x8000 {
         return byte_at(memory, at);
     }
-    let base = word_at(image, 5) as usize;
+    let base = base_of(image) as usize;
     if at < base {
         return 0;
     }
-    let code = 8 + 2 * byte_at(image, 7) as usize;
-    byte_at(image, code + (at - base))
+    byte_at(image, code_at(image) + (at - base))
 }
 
 // A word's high byte lies at the lower address.

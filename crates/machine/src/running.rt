@@ -1,6 +1,6 @@
 // A run of an image and limits that are valid.
 ghost use mathlib.Core.Path.{_≡_};
-ghost use Rattle.image.proofs.ValidLayout.{ValidLayout};
+ghost use Rattle.image.specs.ValidLayout.{ValidLayout};
 ghost use Rattle.machine.specs.Step.{stepRefusal};
 ghost use Rattle.machine.specs.Run.{ran};
 use crate::Ran;
@@ -36,8 +36,8 @@ impl Registers {
         ensures { λ r. ⌜ ran budget (now (image .entry)) limits self (now (memory .entry)) ≡ (r, now (memory .exit)) ⌝ }
     {
         let plain = stm8::plain_lengths();
-        let after72 = stm8::after_72_lengths();
-        let after90 = stm8::after_90_lengths();
+        let after_72 = stm8::after_72_lengths();
+        let after_90 = stm8::after_90_lengths();
         let mut registers = self;
         let mut left = budget;
         let answer = loop {
@@ -47,7 +47,15 @@ impl Registers {
                 }
                 break RunAnswer::Spent;
             }
-            let stepped = registers.step(image, layout, limits, memory, &plain, &after72, &after90);
+            let stepped = registers.step(
+                image,
+                layout,
+                limits,
+                memory,
+                &plain,
+                &after_72,
+                &after_90,
+            );
             let made = stepped.answer;
             registers = stepped.registers;
             match made {

@@ -2,11 +2,10 @@
 ghost use mathlib.Core.Path.{_≡_};
 ghost use Prim.Native.Nat.{_+_, _-_, _<_};
 ghost use lib.ListN.{drop};
-ghost use Rattle.stm8.specs.OpcodeMap.{Plain, After72, After90};
-ghost use Rattle.stm8.specs.Decoding.{lengths, decoded as decodedOf};
+ghost use Rattle.stm8.specs.Decoding.{decoded as decodedOf, Tables};
 ghost use Rattle.image.specs.Image.{layoutOf, baseOf, codeOf};
 ghost use Rattle.image.specs.Validation.{answer as answerOf};
-ghost use Rattle.image.proofs.ValidLayout.{ValidLayout};
+ghost use Rattle.image.specs.ValidLayout.{ValidLayout};
 ghost use Rattle.machine.specs.Step.{pcTrap, decodingTrap, decodedStep, stepValid, stepRefusal};
 use crate::Registers;
 use crate::StepAnswer;
@@ -39,16 +38,16 @@ fn decode_at(
     layout: Layout,
     pc: u32,
     plain: &[u8; 256],
-    after72: &[u8; 256],
-    after90: &[u8; 256],
+    after_72: &[u8; 256],
+    after_90: &[u8; 256],
 ) -> Decoded
     requires valid { ⌜ ValidLayout (now image) layout ⌝ }
     requires inside { ⌜ pcTrap (now image) pc ≡ 0 ⌝ }
-    requires tables { ⌜ (now plain ≡ lengths Plain) × (now after72 ≡ lengths After72) × (now after90 ≡ lengths After90) ⌝ }
+    requires tables { ⌜ Tables (now plain) (now after_72) (now after_90) ⌝ }
     ensures { λ r. ⌜ r ≡ decodedOf (drop (pc - baseOf (now (image .entry))) (codeOf (now (image .entry)))) ⌝ }
 {
     let at = layout.code + (pc as usize - layout.base as usize);
-    decode_by(&image[at..], plain, after72, after90)
+    decode_by(&image[at..], plain, after_72, after_90)
 }
 
 // 23 outside the set, 22 where the bytes run out.
@@ -93,11 +92,11 @@ impl Registers {
         limits: Limits,
         memory: &mut [u8],
         plain: &[u8; 256],
-        after72: &[u8; 256],
-        after90: &[u8; 256],
+        after_72: &[u8; 256],
+        after_90: &[u8; 256],
     ) -> Stepped
         requires valid { ⌜ ValidLayout (now image) layout ⌝ }
-        requires tables { ⌜ (now plain ≡ lengths Plain) × (now after72 ≡ lengths After72) × (now after90 ≡ lengths After90) ⌝ }
+        requires tables { ⌜ Tables (now plain) (now after_72) (now after_90) ⌝ }
         ensures { λ r. ⌜ stepValid (now (image .entry)) limits self (now (memory .entry)) ≡ (r, now (memory .exit)) ⌝ }
     {
         let pc = self.pc;
@@ -108,7 +107,7 @@ impl Registers {
         if trap != 0 {
             return self.answer(StepAnswer::Trap(trap));
         }
-        let decoded = decode_at(image, layout, pc, plain, after72, after90);
+        let decoded = decode_at(image, layout, pc, plain, after_72, after_90);
         let Decoded::Found(i, n) = decoded else {
             return self.answer(StepAnswer::Trap(decoding_trap(decoded)));
         };

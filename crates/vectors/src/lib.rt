@@ -1,9 +1,9 @@
 // Registers and memory as bytes, in the form in which recorded steps and written cases give them.
 ghost use mathlib.Core.Path.{_≡_};
-ghost use lib.ListN.{set};
 ghost use Rattle.vectors.specs.Bytes.{registersOf, withCells};
 use machine::Registers;
 use numbers::words::byte_at;
+use numbers::words::put_byte;
 use numbers::words::word_at;
 
 // Registers from eleven bytes: A, X, Y, CC, SP and PC, high byte first.
@@ -20,15 +20,6 @@ pub fn registers_of(bytes: &[u8]) -> Registers
     }
 }
 
-// Stores a byte; past the memory's end there is nothing to store to.
-fn put(memory: &mut [u8], address: usize, byte: u8)
-    ensures { λ _. ⌜ now (memory .exit) ≡ set (now (memory .entry)) address byte ⌝ }
-{
-    if address < memory.len() {
-        memory[address] = byte;
-    }
-}
-
 // Puts cells into memory, one after the other: an address, high byte first, and the byte there.
 pub fn put_cells(memory: &mut [u8], cells: &[u8])
     ensures { λ _. ⌜ now (memory .exit) ≡ withCells (now (memory .entry)) (now (cells .entry)) ⌝ }
@@ -36,7 +27,7 @@ pub fn put_cells(memory: &mut [u8], cells: &[u8])
     let mut at = 0;
     while at + 2 < cells.len() {
         let address = word_at(cells, at) as usize;
-        put(memory, address, byte_at(cells, at + 2));
+        put_byte(memory, address, byte_at(cells, at + 2));
         at += 3;
     }
 }

@@ -1,8 +1,7 @@
 -- `checker::check_code` meets its contract.
 use mathlib.Core.Path.{ap, _∙_}
 use lib.ListN.{length, length-replicate}
-use Rattle.image.proofs.ValidLayout.{valid-bounds}
-use Rattle.checker.proofs.Layouts.{count-is, size-is}
+use Rattle.image.proofs.Layouts.{valid-bounds, count-is, size-is}
 use Rattle.checker.proofs.Verdicts.{code-checked}
 use borrow.Author.Needs.{needs}
 use native.Mathlib.Omega.{arith}

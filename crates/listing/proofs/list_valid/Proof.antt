@@ -6,7 +6,7 @@ use borrow.Author.Needs.{needs}
 use denote.Ref.{now}
 use Rattle.checker.specs.Check.{checked}
 use Rattle.checker.specs.declared.Verdict.{Verdict}
-use Rattle.checker.proofs.Layouts.{size-is}
+use Rattle.image.proofs.Layouts.{size-is}
 use Rattle.listing.proofs.Appending.{_then_}
 use Rattle.listing.proofs.Placing.{valid-laid, accepted-listing, refused-listing}
 use Rattle.listing.proofs.Sizes.{starts-room}

@@ -1,6 +1,6 @@
 -- `checker::rules::store_check` meets its contract.
 use Rattle.checker.specs.Sweep.{storeCheck}
-use Rattle.checker.proofs.Checks.{wide-bound}
+use Rattle.stm8.proofs.EffectLaws.{wide-most}
 use borrow.Author.Needs.{needs}
 use native.Mathlib.Omega.{arith}
 use Rattle.checker.proofs.rules.store_check.Statement.{statement}
@@ -35,7 +35,7 @@ store-check-spec =
     (λ c. search needs)
     (λ c. search needs)
     (λ c κs. search needs)
-    (λ c. omega (arith, wide-bound (c .before .before .place .given .0 .1 .0) _ (c .bytes-wide .ensures)))
+    (λ c. omega (arith, c .bytes-wide .ensures, wide-most (c .before .before .place .given .0 .1 .0)))
     (λ c κs. search needs)
     (λ c κs. search needs)
     (λ c. search needs)
@@ -43,7 +43,7 @@ store-check-spec =
     (λ c κs. search needs)
     (λ c. search needs)
     (λ c κs. search needs)
-    (λ c. omega (arith, wide-bound (c .before .before .before .place2 .given .0 .1 .0) _ (c .bytes-wide2 .ensures)))
+    (λ c. omega (arith, c .bytes-wide2 .ensures, wide-most (c .before .before .before .place2 .given .0 .1 .0)))
     (λ c κs. search needs)
     (λ c κs. search needs)
     (λ c. search needs)

@@ -8,11 +8,10 @@ use Rattle.stm8.specs.Decoding.{decodingNumber}
 use Rattle.stm8.specs.declared.Decoded.{Decoded}
 use Rattle.stm8.specs.declared.Decoded.the-variants.{Found, Outside, Truncated}
 use Rattle.image.specs.declared.Limits.{Limits}
-use Rattle.image.proofs.ValidLayout.{valid-bounds}
+use Rattle.image.proofs.Layouts.{valid-bounds, base-is, code-is}
 use Rattle.checker.specs.Sweep.{refused, decodedAt, startAt}
 use Rattle.checker.specs.declared.sweep.Routine.{Routine}
 use Rattle.checker.specs.declared.sweep.Progress.{Progress}
-use Rattle.checker.proofs.Layouts.{base-is, code-is}
 use Rattle.checker.proofs.Starts.{start-refused, start-reached, found-inside}
 use borrow.Author.Needs.{needs}
 use native.Mathlib.Omega.{arith}

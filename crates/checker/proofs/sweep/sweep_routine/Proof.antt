@@ -2,7 +2,7 @@
 use Prim.Native.Nat.{_+_, _-_}
 use mathlib.Core.Path.{_≡_, refl, sym, _∙_}
 use Rattle.image.specs.Image.{endOf}
-use Rattle.image.proofs.ValidLayout.{valid-bounds}
+use Rattle.image.proofs.Layouts.{valid-bounds}
 use Rattle.checker.specs.Sweep.{startsFrom, routineSwept}
 use Rattle.checker.specs.Internal.{Ready}
 use Rattle.checker.proofs.Starts.{Went, start-went}

@@ -3,9 +3,8 @@ use Prim.Native.Nat.{_-_}
 use mathlib.Core.Path.{sym, ap, _∙_}
 use native.Mathlib.Nat.{sub-zero}
 use Rattle.image.proofs.Measuring.{start-zero, start-inside}
-use Rattle.image.proofs.ValidLayout.{valid-bounds}
+use Rattle.image.proofs.Layouts.{valid-bounds, count-is, size-is}
 use Rattle.checker.specs.declared.sweep.Sweep.{Sweep}
-use Rattle.checker.proofs.Layouts.{count-is, size-is}
 use Rattle.checker.proofs.Routines.{Going, going-turns, routines-last, routines-done, zeros-at}
 use native.Mathlib.Omega.{arith}
 use denote.Ref.{now}

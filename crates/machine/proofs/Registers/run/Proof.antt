@@ -1,5 +1,5 @@
 -- `machine::Registers::run` meets its contract. The loop's invariant: the steps made and then a run with the steps left are the whole run.
-use Prim.Native.Nat.{ℕ, _+_, _-_, _≤_}
+use Prim.Native.Nat.{_+_, _-_, _≤_}
 use mathlib.Core.Path.{_≡_, refl, sym, _∙_, ap}
 use mathlib.Core.Logic.{⊎-elim}
 use native.Mathlib.Omega.{arith}
@@ -29,10 +29,15 @@ loop-holds c =
     (omega arith, refl, rw e (after-none (ran (a .budget) (now (a .image)) (a .limits) (a .self) (now (a .memory)))))
 
 step-requires : tie.Need-step-requires Inv-loop μ-loop
-step-requires c κs = (
-  c .before .before .before .before .before .before .before .before .before .before .before .pre .0,
-  (c .before .before .before .before .before .before .before .before .plain-lengths .ensures, c .before .before .before .before .before .before .before .after-72-lengths .ensures, c .before .before .before .before .before .before .after-90-lengths .ensures),
-)
+step-requires c κs =
+    let c6 = c .before .before .before .before .before .before in (
+      c6 .before .before .before .before .before .pre .0,
+      record {
+        plain-is = c6 .before .before .plain-lengths .ensures;
+        after72-is = c6 .before .after-72-lengths .ensures;
+        after90-is = c6 .after-90-lengths .ensures;
+      },
+    )
 
 loop-again : tie.Need-loop-again Inv-loop μ-loop
 loop-again c =

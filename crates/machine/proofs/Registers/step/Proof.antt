@@ -1,5 +1,4 @@
 -- `machine::Registers::step` meets its contract, by the ways through a step.
-use Prim.Native.Nat.{_+_, _-_}
 use mathlib.Core.Path.{_≡_, sym, ap, _∙_}
 use denote.Ref.{now}
 use borrow.Author.Tests.{eq-eqb, ne-eqb}

@@ -1,7 +1,7 @@
 -- `machine::moving::target` meets its contract: an offset adds at most 255.
 use native.Mathlib.Omega.{arith}
 use borrow.Author.Needs.{needs}
-use Rattle.machine.proofs.StepLaws.{relative-most}
+use Rattle.stm8.proofs.EffectLaws.{relative-most}
 use Rattle.machine.proofs.moving.target.Statement.{statement}
 use Rattle.machine.proofs.moving.target.Tie as tie
 

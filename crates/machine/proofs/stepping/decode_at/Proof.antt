@@ -3,11 +3,12 @@ use Prim.Native.Nat.{_+_, _-_}
 use mathlib.Core.Path.{ap, _∙_}
 use denote.Ref.{now}
 use lib.ListN.{drop}
-use lib.Seq.{getD-drop}
 use borrow.Rule.Slice.PartAt.{part-to-end}
 use borrow.Author.Needs.{needs}
+use Rattle.numbers.proofs.Bytes.{bytes-dropped}
 use Rattle.stm8.specs.Decoding.{tables, decoded, decodedBy}
-use Rattle.machine.proofs.StepLaws.{pc-inside, index-inside, code-from, decoded-by-tables}
+use Rattle.stm8.proofs.Lengths.{decoded-by-tables}
+use Rattle.machine.proofs.StepLaws.{pc-inside, index-inside, code-from}
 use Rattle.machine.proofs.stepping.decode_at.Statement.{statement}
 use Rattle.machine.proofs.stepping.decode_at.Tie as tie
 
@@ -18,9 +19,9 @@ returns c =
     let image = now (a .image) in
     let at = a .layout .code + (a .pc - a .layout .base) in
     c .decode-by .ensures ∙
-    ap (decodedBy (tables (now (a .plain)) (now (a .after72)) (now (a .after90)))) (part-to-end image at) ∙
-    decoded-by-tables (now (a .plain)) (now (a .after72)) (now (a .after90)) (start .pre .1 .1 .0) (start .pre .1 .1 .1) (start .pre .1 .1 .2) (drop at image)
-    (λ k. rw getD-drop (c .before .before .before .before .shared-slice-known .given (at + k) .fits)) ∙
+    ap (decodedBy (tables (now (a .plain)) (now (a .after-72)) (now (a .after-90)))) (part-to-end image at) ∙
+    decoded-by-tables (now (a .plain)) (now (a .after-72)) (now (a .after-90)) (start .pre .1 .1) (drop at image)
+    (bytes-dropped at image (λ k. c .before .before .before .before .shared-slice-known .given k .fits)) ∙
     ap decoded (code-from image (a .layout) (start .pre .0 .is) (a .pc))
 
 pub decode-at-spec : {M : Type 1} → statement M

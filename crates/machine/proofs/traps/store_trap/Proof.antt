@@ -2,7 +2,7 @@
 use native.Mathlib.Omega.{arith}
 use borrow.Author.Needs.{needs}
 use Rattle.machine.specs.Step.{storeTrap}
-use Rattle.machine.proofs.StepLaws.{wide-most}
+use Rattle.stm8.proofs.EffectLaws.{wide-most}
 use Rattle.machine.proofs.traps.store_trap.Statement.{statement}
 use Rattle.machine.proofs.traps.store_trap.Tie as tie
 
