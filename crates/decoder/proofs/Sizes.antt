@@ -2,7 +2,6 @@
 use Prim.Native.Nat.{ℕ, _≤_, _<_}
 use mathlib.Core.Path.{_≡_}
 use mathlib.Core.List.{List}
-use native.Mathlib.Omega.{arith}
 use borrow.Author.Tests.{lt-leb, ne-eqb, lt-ltb, le-ltb}
 use lib.ListN.{getD, length}
 use Rattle.stm8.specs.OpcodeMap.{Page}

@@ -1,7 +1,6 @@
 -- `encodings::code_of` is safe and ends: k counts to 5.
 use Prim.Native.Nat.{_≤_, _-_}
 use native.Mathlib.Omega.{arith}
-use mathlib.Core.Logic.{⊎-elim}
 use borrow.Author.Needs.{needs}
 use Rattle.encodings.proofs.code_of.Statement.{statement}
 use Rattle.encodings.proofs.code_of.Tie as tie

@@ -1,7 +1,6 @@
 -- `encodings::differ` is safe and ends: the measure is the bytes left.
 use Prim.Native.Nat.{_≤_, _-_}
 use native.Mathlib.Omega.{arith}
-use borrow.Author.Needs.{needs}
 use Rattle.encodings.proofs.differ.Statement.{statement}
 use Rattle.encodings.proofs.differ.Tie as tie
 

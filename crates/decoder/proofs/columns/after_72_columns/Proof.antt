@@ -1,6 +1,6 @@
 -- `decoder::columns::after_72_columns` meets its contract.
 use Prim.Native.Nat.{_/_}
-use mathlib.Core.Path.{refl, sym}
+use mathlib.Core.Path.{refl}
 use mathlib.Core.List.{[], _∷_}
 use native.Mathlib.Omega.{arith}
 use lib.ListN.{getD}
