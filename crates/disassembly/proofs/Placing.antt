@@ -15,7 +15,7 @@ pub placed-short : (s buffer : List ℕ) → length buffer < length s → placed
 unfolding placed
 placed-short s buffer h = rw (lt-ltb (length buffer) (length s) h)
 
-pub placed-fits : (s buffer : List ℕ) → length s ≤ length buffer → placed s buffer ≡ (Bytes (length s), s ++ drop (length s) buffer)
+placed-fits : (s buffer : List ℕ) → length s ≤ length buffer → placed s buffer ≡ (Bytes (length s), s ++ drop (length s) buffer)
 unfolding placed
 placed-fits s buffer h = rw (le-ltb (length buffer) (length s) h)
 
