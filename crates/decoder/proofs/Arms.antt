@@ -53,5 +53,6 @@ pub last-row : (last : ℕ) (row : List Entry) (page : List (List Entry)) (keys 
     i ≡ orElse i (getD (getD page (op / 16) []) (op % 16) Blank)
 unfolding inRow
 last-row last row page keys e op i h none at =
-    let found : cond (eqb (op / 16) last) row [] ≡ getD page (op / 16) [] = rest 15 keys (λ k. cond (eqb k last) row []) (λ k. getD page k []) e (op / 16) (omega arith) none in
+    let found : cond (eqb (op / 16) last) row [] ≡ getD page (op / 16) [] =
+    rest 15 keys (λ k. cond (eqb k last) row []) (λ k. getD page k []) e (op / 16) (omega arith) none in
     subst (λ (r : List Entry). i ≡ orElse i (getD r (op % 16) Blank)) found (or-blank (eqb (op / 16) last) row (op % 16) i at)

@@ -19,10 +19,5 @@ decode-by-spec =
     (λ c κs. search needs)
     (λ c.
     let c2 = c .before .before in
-    rw (
-      c .plain .ensures,
-      ← c2 .before .byte-at .ensures,
-      ne-eqb _ _ (c2 .if1 .left),
-      ne-eqb _ _ (c .before .if2 .left),
-      c2 .before .byte-at .ensures,
-    )))
+    let c3 = c2 .before in
+    rw (c .plain .ensures, ← c3 .byte-at .ensures, ne-eqb _ _ (c2 .if1 .left), ne-eqb _ _ (c .before .if2 .left), c3 .byte-at .ensures)))

@@ -32,7 +32,8 @@ after-72-spec =
     (λ c.
     let c2 = c .before .before in
     let c4 = c2 .before .before in
-    let s = c4 .before .before .before .before .before .before .args in
-    rw (c .after-72-entry .ensures, c .before .byte-at4 .ensures, c2 .byte-at3 .ensures, c2 .before .byte-at2 .ensures, c4 .before .before .before .byte-at .ensures)
-    (whole After72 (now (s .bytes)) (now (s .lengths)) (c4 .before .before .before .before .if1 .left) (c4 .before .before .before .byte-at .ensures)
+    let c7 = c4 .before .before .before in
+    let s = c7 .before .before .before .args in
+    rw (c .after-72-entry .ensures, c .before .byte-at4 .ensures, c2 .byte-at3 .ensures, c2 .before .byte-at2 .ensures, c7 .byte-at .ensures)
+    (whole After72 (now (s .bytes)) (now (s .lengths)) (c7 .before .if1 .left) (c7 .byte-at .ensures)
     (c4 .before .before .table-length .ensures) (c4 .before .if2 .left) (c4 .if3 .left))))

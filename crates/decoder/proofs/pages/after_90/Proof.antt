@@ -31,7 +31,8 @@ after-90-spec =
     (λ c.
     let c2 = c .before .before in
     let c4 = c2 .before .before in
-    let s = c4 .before .before .before .before .before .args in
-    rw (c .after-90-entry .ensures, c .before .byte-at3 .ensures, c2 .byte-at2 .ensures, c4 .before .before .byte-at .ensures)
-    (whole After90 (now (s .bytes)) (now (s .lengths)) (c4 .before .before .before .if1 .left) (c4 .before .before .byte-at .ensures)
+    let c6 = c4 .before .before in
+    let s = c6 .before .before .before .args in
+    rw (c .after-90-entry .ensures, c .before .byte-at3 .ensures, c2 .byte-at2 .ensures, c6 .byte-at .ensures)
+    (whole After90 (now (s .bytes)) (now (s .lengths)) (c6 .before .if1 .left) (c6 .byte-at .ensures)
     (c4 .before .table-length .ensures) (c4 .if2 .left) (c2 .before .if3 .left))))

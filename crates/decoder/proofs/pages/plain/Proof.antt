@@ -33,7 +33,9 @@ plain-spec =
     (λ c.
     let c2 = c .before .before in
     let c4 = c2 .before .before in
-    let s = c4 .before .before .before .before .before .before .before .args in
-    rw (c .plain-entry .ensures, c .before .byte-at5 .ensures, c2 .byte-at4 .ensures, c2 .before .byte-at3 .ensures, c4 .byte-at2 .ensures, c4 .before .before .before .before .byte-at .ensures)
-    (whole Plain (now (s .bytes)) (now (s .lengths)) (omega (arith, c4 .before .before .before .before .before .if1 .left)) (c4 .before .before .before .before .byte-at .ensures)
-    (c4 .before .before .before .table-length .ensures) (c4 .before .before .if2 .left) (c4 .before .if3 .left))))
+    let c8 = c4 .before .before .before .before in
+    let s = c8 .before .before .before .args in
+    rw (c .plain-entry .ensures, c .before .byte-at5 .ensures, c2 .byte-at4 .ensures, c2 .before .byte-at3 .ensures, c4 .byte-at2 .ensures)
+    (rw (c8 .byte-at .ensures)
+    (whole Plain (now (s .bytes)) (now (s .lengths)) (omega (arith, c8 .before .if1 .left)) (c8 .byte-at .ensures)
+    (c4 .before .before .before .table-length .ensures) (c4 .before .before .if2 .left) (c4 .before .if3 .left)))))
