@@ -43,8 +43,9 @@ module _ (a m cc : ℕ) where
   accumulator-keeps = (simp puts, simp puts, simp puts, simp puts, simp puts, simp puts, simp puts, simp puts, simp puts, simp puts)
 
   pub modify-keeps :
-      Keeps cc (CLR cc .cc) × Keeps cc (CPL m cc .cc) × Keeps cc (DEC m cc .cc) × Keeps cc (INC m cc .cc) × Keeps cc (NEG m cc .cc) × Keeps cc (RLC m cc .cc) ×
-      Keeps cc (RRC m cc .cc) × Keeps cc (SLL m cc .cc) × Keeps cc (SRA m cc .cc) × Keeps cc (SRL m cc .cc) × Keeps cc (SWAP m cc .cc) × Keeps cc (TNZ m cc .cc)
+      Keeps cc (CLR cc .cc) × Keeps cc (CPL m cc .cc) × Keeps cc (DEC m cc .cc) × Keeps cc (INC m cc .cc) × Keeps cc (NEG m cc .cc) ×
+      Keeps cc (RLC m cc .cc) × Keeps cc (RRC m cc .cc) × Keeps cc (SLL m cc .cc) × Keeps cc (SRA m cc .cc) × Keeps cc (SRL m cc .cc) ×
+      Keeps cc (SWAP m cc .cc) × Keeps cc (TNZ m cc .cc)
   unfolding resultNZ resultNZC CLR DEC INC NEG afterIncrement afterDecrement withNZ
   modify-keeps = (simp puts, simp puts, simp puts, simp puts, simp puts, simp puts, simp puts, simp puts, simp puts, simp puts, simp puts, simp puts)
 
