@@ -1,11 +1,10 @@
 -- A byte with a bit put in: the code's way to it, and what its bits are.
 use Prim.Native.Nat.{ℕ, suc, _+_, _-_, _*_, _/_, _%_, _^_, _≤_, _<_}
-use mathlib.Core.Path.{_≡_, refl, sym, ap, _∙_}
-use mathlib.Core.Bool.{Bool, true, false, cond}
+use mathlib.Core.Path.{_≡_, sym, ap, _∙_}
+use mathlib.Core.Bool.{Bool, true, false}
 use native.Mathlib.Omega.{arith}
 use native.Mathlib.Nat.{add-comm, mul-assoc, mul-right-comm, div-add-mod', mul-le-mul-right, mod-eq-of-lt, mod-lt, lt-of-le-of-lt}
 use lib.Arith.{digits-div, digits-mod}
-use lib.Dec.{ltb}
 use lib.Pow.{pow-pos, pow-add, pow-lt, mod-pow-add, shr-lt, shr-shr, field, mod-mod-pow}
 use borrow.Author.Tests.{lt-ltb}
 use Rattle.numbers.specs.Bits.{flag, bit}
@@ -75,11 +74,6 @@ module _ (k n : ℕ) (b : Bool) where
   -- what stands from bit k on
   from-bit : k < 8 → withBit k b n / 2 ^ k ≡ n / 2 ^ (k + 1) * 2 + flag b
   from-bit small = rw (apart small) (digits-div (n / 2 ^ (k + 1) * 2 + flag b) (mod-lt n (pow-pos k)))
-
-  -- the bit that was put in
-  pub bit-with-bit : k < 8 → bit k (withBit k b n) ≡ flag b
-  unfolding bit
-  bit-with-bit small = rw (from-bit small) (omega (arith, flag-le b))
 
   -- the bits below it stay
   bits-below : (j : ℕ) → k < 8 → j < k → bit j (withBit k b n) ≡ bit j n

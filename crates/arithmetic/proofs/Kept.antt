@@ -2,21 +2,15 @@
 use Prim.Native.Nat.{ℕ, _<_}
 use mathlib.Core.Path.{_≡_}
 use mathlib.Core.Bool.{Bool}
-use mathlib.Core.List.{List, [], _∷_}
 use native.Mathlib.Omega.{arith}
-use Rattle.numbers.specs.Bits.{bit}
 use Rattle.arithmetic.specs.Bits.{withBit}
-use Rattle.arithmetic.specs.Flags.{withV, withH, withN, withZ, withC, withNZ, SCF, RCF, CCF, RVF}
+use Rattle.arithmetic.specs.Flags.{withV, withH, withN, withZ, withC, withNZ, rest, Keeps, SCF, RCF, CCF, RVF}
 use Rattle.arithmetic.specs.Sums.{afterSum, afterDifference, afterIncrement, afterDecrement}
 use Rattle.arithmetic.specs.Accumulator.{added, subtracted, resultNZ, ADC, ADD, AND, BCP, CP, LD, OR, SBC, SUB, XOR}
 use Rattle.arithmetic.specs.Modify.{resultNZC, CLR, CPL, DEC, INC, NEG, RLC, RRC, SLL, SRA, SRL, SWAP, TNZ}
 use Rattle.arithmetic.specs.Words.{LDW, ADDW, SUBW, CPW, INCW, DECW, CLRW, MUL}
 use Rattle.arithmetic.specs.BitOperations.{BTJ}
 use Rattle.arithmetic.proofs.BitLaws.{other-bit}
-
--- bit 6, I1 and I0
-unfoldable pub rest : ℕ → List ℕ
-rest cc = bit 6 cc ∷ bit 5 cc ∷ bit 3 cc ∷ []
 
 module _ (b : Bool) (cc : ℕ) where
   kept : (k : ℕ) → k < 8 → (6 ≡ k → ⊥) → (5 ≡ k → ⊥) → (3 ≡ k → ⊥) → rest (withBit k b cc) ≡ rest cc
@@ -40,10 +34,6 @@ module _ (b : Bool) (cc : ℕ) where
 
 ruleset puts = (rest-V, rest-H, rest-N, rest-Z, rest-C)
 
--- CC after an operation keeps the rest
-abbrev pub Keeps : ℕ → ℕ → Type 0
-Keeps cc after = rest after ≡ rest cc
-
 -- the operations on A, on one byte, on a word, and on a flag or a bit
 module _ (a m cc : ℕ) where
   pub accumulator-keeps :
@@ -53,8 +43,9 @@ module _ (a m cc : ℕ) where
   accumulator-keeps = (simp puts, simp puts, simp puts, simp puts, simp puts, simp puts, simp puts, simp puts, simp puts, simp puts)
 
   pub modify-keeps :
-      Keeps cc (CLR cc .cc) × Keeps cc (CPL m cc .cc) × Keeps cc (DEC m cc .cc) × Keeps cc (INC m cc .cc) × Keeps cc (NEG m cc .cc) × Keeps cc (RLC m cc .cc) ×
-      Keeps cc (RRC m cc .cc) × Keeps cc (SLL m cc .cc) × Keeps cc (SRA m cc .cc) × Keeps cc (SRL m cc .cc) × Keeps cc (SWAP m cc .cc) × Keeps cc (TNZ m cc .cc)
+      Keeps cc (CLR cc .cc) × Keeps cc (CPL m cc .cc) × Keeps cc (DEC m cc .cc) × Keeps cc (INC m cc .cc) × Keeps cc (NEG m cc .cc) ×
+      Keeps cc (RLC m cc .cc) × Keeps cc (RRC m cc .cc) × Keeps cc (SLL m cc .cc) × Keeps cc (SRA m cc .cc) × Keeps cc (SRL m cc .cc) ×
+      Keeps cc (SWAP m cc .cc) × Keeps cc (TNZ m cc .cc)
   unfolding resultNZ resultNZC CLR DEC INC NEG afterIncrement afterDecrement withNZ
   modify-keeps = (simp puts, simp puts, simp puts, simp puts, simp puts, simp puts, simp puts, simp puts, simp puts, simp puts, simp puts, simp puts)
 

@@ -3,9 +3,9 @@ use Prim.Native.Nat.{ℕ, _+_, _-_, _%_, _^_, _≤_, _<_}
 use mathlib.Core.Path.{_≡_, refl, sym, ap, _∙_}
 use mathlib.Core.Bool.{Bool, true, false, not, xor, and-false}
 use native.Mathlib.Omega.{arith}
-use native.Mathlib.Nat.{mod-eq-of-lt, mod-eq-sub-mod, mod-lt, mod-add-mod, add-mod-right}
+use native.Mathlib.Nat.{mod-eq-of-lt, mod-lt, mod-add-mod, add-mod-right}
 use lib.Dec.{leb, eqb}
-use lib.Pow.{pow-pos, pow-add, mod-mod-pow}
+use lib.Pow.{pow-pos, mod-mod-pow}
 use borrow.Author.Tests.{le-leb, lt-leb, lt-ltb, le-ltb}
 use Rattle.numbers.specs.Bits.{flag, bit}
 use Rattle.numbers.proofs.Computing.{below}
@@ -17,6 +17,7 @@ use Rattle.arithmetic.specs.Modify.{NEG}
 use Rattle.arithmetic.proofs.BitLaws.{flag-le, bit-low}
 use Rattle.arithmetic.proofs.Orders.{by-order}
 use Rattle.arithmetic.proofs.Overflow.{top}
+use Rattle.arithmetic.proofs.SumLaws.{twice, less-once}
 
 -- bit n by the number that bits n to 0 make
 bit-by-low : (n a : ℕ) → isSet n a ≡ leb (2 ^ n) (a % 2 ^ (n + 1))
@@ -28,9 +29,6 @@ bit-by-low n a =
 
 -- numbers below twice p: whether their sum carries, by p's place in them and in the sum's remainder
 module _ (p a m f : ℕ) (ha : a < p + p) (hm : m < p + p) (hf : f ≤ 1) where
-  over : p + p ≤ a + m + f → (a + m + f) % (p + p) ≡ a + m + f - (p + p)
-  over h = mod-eq-sub-mod h ∙ mod-eq-of-lt (omega arith)
-
   formula : leb (p + p) (a + m + f) ≡ carryFormula (leb p a) (leb p m) (leb p ((a + m + f) % (p + p)))
   formula =
       by-order a p
@@ -38,15 +36,12 @@ module _ (p a m f : ℕ) (ha : a < p + p) (hm : m < p + p) (hf : f ≤ 1) where
       (λ k. rw (lt-leb p a h, lt-leb p m k, lt-leb (p + p) (a + m + f) (omega arith)) (sym (and-false (not (leb p ((a + m + f) % (p + p)))))))
       (λ k. by-order (a + m + f) (p + p)
       (λ l. rw (lt-leb p a h, le-leb p m k, lt-leb (p + p) (a + m + f) l, mod-eq-of-lt l, le-leb p (a + m + f) (omega arith)))
-      (λ l. rw (lt-leb p a h, le-leb p m k, le-leb (p + p) (a + m + f) l, over l, lt-leb p (a + m + f - (p + p)) (omega arith)))))
+      (λ l. rw (lt-leb p a h, le-leb p m k, le-leb (p + p) (a + m + f) l, less-once l (omega arith), lt-leb p (a + m + f - (p + p)) (omega arith)))))
       (λ h. by-order m p
       (λ k. by-order (a + m + f) (p + p)
       (λ l. rw (le-leb p a h, lt-leb p m k, lt-leb (p + p) (a + m + f) l, mod-eq-of-lt l, le-leb p (a + m + f) (omega arith)))
-      (λ l. rw (le-leb p a h, lt-leb p m k, le-leb (p + p) (a + m + f) l, over l, lt-leb p (a + m + f - (p + p)) (omega arith))))
+      (λ l. rw (le-leb p a h, lt-leb p m k, le-leb (p + p) (a + m + f) l, less-once l (omega arith), lt-leb p (a + m + f - (p + p)) (omega arith))))
       (λ k. rw (le-leb p a h, le-leb p m k, le-leb (p + p) (a + m + f) (omega arith))))
-
-twice : (n : ℕ) → 2 ^ (n + 1) ≡ 2 ^ n + 2 ^ n
-twice n = pow-add 2 n 1 ∙ omega arith
 
 -- the remainder of a sum, by its summands' remainders
 remainders : (q a m f : ℕ) → (a % q + m % q + f) % q ≡ (a + m + f) % q
@@ -86,7 +81,7 @@ exchanged false false false = refl
 -- a difference of width w, at a bit n of it
 module _ (w n a m : ℕ) (c : Bool) (inside : n < w) (fits-a : a < 2 ^ w) (fits-m : m < 2 ^ w) where
   -- what was taken away, added again
-  pub sum-difference : sum w (difference w a m c) m c ≡ a
+  sum-difference : sum w (difference w a m c) m c ≡ a
   unfolding sum difference borrowOut
   sum-difference =
       let all : w - 1 + 1 ≡ w = omega arith in
@@ -114,7 +109,7 @@ module _ (w n a m : ℕ) (c : Bool) (inside : n < w) (fits-a : a < 2 ^ w) (fits-
       (by-order s q
       (λ h. rw (mod-eq-of-lt h, le-ltb s (m % q + flag c) (omega arith), lt-leb q s h))
       (λ h.
-      let rest : s % q ≡ s - q = mod-eq-sub-mod h ∙ mod-eq-of-lt (omega (arith, flag-le c)) in
+      let rest : s % q ≡ s - q = less-once h (omega (arith, flag-le c)) in
       rw (rest, lt-ltb (s - q) (m % q + flag c) (omega arith), le-leb q s h)))
 
   pub borrow-formula : borrowOut n a m c ≡ borrowFormula (isSet n a) (isSet n m) (isSet n (difference w a m c))

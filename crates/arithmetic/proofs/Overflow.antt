@@ -4,11 +4,11 @@ use Prim.Native.Nat.{ℕ, zero, suc, _+_, _-_, _%_, _^_, _≤_, _<_}
 use mathlib.Core.Path.{_≡_, refl, sym, ap, _∙_}
 use mathlib.Core.Bool.{Bool, true, false, not, _&&_, cond, xor, and-true}
 use native.Mathlib.Omega.{arith}
-use native.Mathlib.Nat.{mod-eq-of-lt, mod-eq-sub-mod, zero-add, div-eq-of-lt, div-eq-of-lt-le, add-zero}
+use native.Mathlib.Nat.{mod-eq-of-lt, zero-add, div-eq-of-lt, div-eq-of-lt-le, add-zero}
 use lib.Dec.{leb, ltb}
-use lib.IntN.{ℤ, pos, negsuc, negℤ, subℕ, _+ℤ_, _-ℤ_}
+use lib.IntN.{pos, negsuc, negℤ, subℕ, _+ℤ_, _-ℤ_}
 use lib.Signed.{leZ, ltZ}
-use lib.Pow.{pow-pos, pow-add}
+use lib.Pow.{pow-pos}
 use borrow.Author.Tests.{le-leb, lt-leb, lt-ltb, le-ltb}
 use Rattle.numbers.specs.Bits.{flag, bit}
 use Rattle.arithmetic.specs.Bits.{isSet}
@@ -16,6 +16,7 @@ use Rattle.arithmetic.specs.Signed.{signed, fitsSigned}
 use Rattle.arithmetic.specs.Sums.{carryOut, borrowOut, sumOverflow, differenceOverflow}
 use Rattle.arithmetic.proofs.BitLaws.{flag-le}
 use Rattle.arithmetic.proofs.Orders.{by-order, same-test, not-ltb, not-leb}
+use Rattle.arithmetic.proofs.SumLaws.{twice, less-once}
 
 -- differences of naturals, as integers
 sub-less : (a b : ℕ) → a < b → subℕ a b ≡ negsuc (b - suc a)
@@ -85,9 +86,6 @@ over h n = cond (leb h n) (h + h) 0
 
 -- the tests on numbers below twice h, by the halves that the operands lie in
 module _ (h a m f : ℕ) (ha : a < h + h) (hm : m < h + h) (hf : f ≤ 1) where
-  low : (n : ℕ) → h ≤ n → n < h + h → n % h ≡ n - h
-  low n above below = mod-eq-sub-mod above ∙ mod-eq-of-lt (omega arith)
-
   sums : xor (leb (h + h) (a + m + f)) (leb h (a % h + m % h + f)) ≡
       not (leb (over h a + over h m) (a + m + f + h) && ltb (a + m + f) (over h a + over h m + h))
   sums =
@@ -100,15 +98,15 @@ module _ (h a m f : ℕ) (ha : a < h + h) (hm : m < h + h) (hf : f ≤ 1) where
       (rw (lt-leb both s (omega arith), xor-false, le-leb 0 (s + h) (omega arith), zero-add h) (sym (not-ltb s h))))
       (λ q.
       let one : leb h (a + (m - h) + f) ≡ leb both s = same-test h (a + (m - h) + f) both s (λ r. omega arith) (λ r. omega arith) in
-      rw (lt-leb h a p, le-leb h m q, mod-eq-of-lt p, low m q hm, one, xor-same (leb both s))
+      rw (lt-leb h a p, le-leb h m q, mod-eq-of-lt p, less-once q hm, one, xor-same (leb both s))
       (rw (le-leb (0 + both) (s + h) (omega arith), lt-ltb s (0 + both + h) (omega arith)))))
       (λ p. by-order m h
       (λ q.
       let one : leb h (a - h + m + f) ≡ leb both s = same-test h (a - h + m + f) both s (λ r. omega arith) (λ r. omega arith) in
-      rw (le-leb h a p, lt-leb h m q, low a p ha, mod-eq-of-lt q, one, xor-same (leb both s))
+      rw (le-leb h a p, lt-leb h m q, less-once p ha, mod-eq-of-lt q, one, xor-same (leb both s))
       (rw (le-leb (both + 0) (s + h) (omega arith), lt-ltb s (both + 0 + h) (omega arith))))
       (λ q.
-      rw (le-leb h a p, le-leb h m q, low a p ha, low m q hm)
+      rw (le-leb h a p, le-leb h m q, less-once p ha, less-once q hm)
       (rw (le-leb both s (omega arith), xor-true, lt-ltb s (both + both + h) (omega arith), and-true)
       (ap not (same-test h (a - h + (m - h) + f) (both + both) (s + h) (λ r. omega arith) (λ r. omega arith))))))
 
@@ -122,17 +120,17 @@ module _ (h a m f : ℕ) (ha : a < h + h) (hm : m < h + h) (hf : f ≤ 1) where
       rw (lt-leb h a p, lt-leb h m q, mod-eq-of-lt p, mod-eq-of-lt q, xor-same (ltb a (m + f)))
       (rw (le-leb (0 + (m + f)) (a + 0 + h) (omega arith), lt-ltb (a + 0) (0 + (m + f) + h) (omega arith))))
       (λ q.
-      rw (lt-leb h a p, le-leb h m q, mod-eq-of-lt p, low m q hm)
+      rw (lt-leb h a p, le-leb h m q, mod-eq-of-lt p, less-once q hm)
       (rw (lt-ltb a (m + f) (omega arith), xor-true, le-leb (0 + (m + f)) (a + both + h) (omega arith))
       (ap not (same-test (suc a) (m - h + f) (suc (a + both)) (0 + (m + f) + h) (λ r. omega arith) (λ r. omega arith))))))
       (λ p. by-order m h
       (λ q.
-      rw (le-leb h a p, lt-leb h m q, low a p ha, mod-eq-of-lt q)
+      rw (le-leb h a p, lt-leb h m q, less-once p ha, mod-eq-of-lt q)
       (rw (le-ltb a (m + f) (omega arith), xor-false, lt-ltb (a + 0) (both + (m + f) + h) (omega arith), and-true)
       (same-test (suc (a - h)) (m + f) (suc (a + 0 + h)) (both + (m + f)) (λ r. omega arith) (λ r. omega arith) ∙ sym (not-leb (both + (m + f)) (a + 0 + h)))))
       (λ q.
       let one : ltb (a - h) (m - h + f) ≡ ltb a (m + f) = same-test (suc (a - h)) (m - h + f) (suc a) (m + f) (λ r. omega arith) (λ r. omega arith) in
-      rw (le-leb h a p, le-leb h m q, low a p ha, low m q hm, one, xor-same (ltb a (m + f)))
+      rw (le-leb h a p, le-leb h m q, less-once p ha, less-once q hm, one, xor-same (ltb a (m + f)))
       (rw (le-leb (both + (m + f)) (a + both + h) (omega arith), lt-ltb (a + both) (both + (m + f) + h) (omega arith)))))
 
 -- the width's powers by its half, and the top bit
@@ -140,7 +138,7 @@ module _ (w : ℕ) (wide : 1 ≤ w) where
   whole : 2 ^ w ≡ 2 ^ (w - 1) + 2 ^ (w - 1)
   whole =
       let up : w ≡ w - 1 + 1 = omega arith in
-      ap (λ n. 2 ^ n) up ∙ pow-add 2 (w - 1) 1 ∙ omega arith
+      ap (λ n. 2 ^ n) up ∙ twice (w - 1)
 
   pub top : (n : ℕ) → n < 2 ^ w → isSet (w - 1) n ≡ leb (2 ^ (w - 1)) n
   unfolding bit

@@ -1,13 +1,21 @@
--- The code's way to a carry, a difference, a shift and a product.
+-- Powers of two, remainders, and the code's way to a carry, a difference, a shift and a product.
 use Prim.Native.Nat.{ℕ, _+_, _-_, _*_, _%_, _^_, _≤_, _<_}
 use mathlib.Core.Path.{_≡_, sym, _∙_}
 use mathlib.Core.Bool.{cond}
 use native.Mathlib.Omega.{arith}
-use native.Mathlib.Nat.{one-mul, mod-eq-of-lt, mod-eq-sub-mod, mod-lt, lt-of-lt-of-le, lt-of-le-of-lt, mul-le-mul}
+use native.Mathlib.Nat.{two-pow-succ, one-mul, mod-eq-of-lt, mod-eq-sub-mod, mod-lt, lt-of-lt-of-le, lt-of-le-of-lt, mul-le-mul}
+use native.Mathlib.Numerals.{add-one}
 use lib.Dec.{ltb}
 use lib.Pow.{pow-pos, pow-lt, pow-mono}
 use borrow.Author.Tests.{lt-ltb, le-ltb}
 use Rattle.arithmetic.proofs.Orders.{by-order}
+
+pub twice : (n : ℕ) → 2 ^ (n + 1) ≡ 2 ^ n + 2 ^ n
+twice n = rw add-one (two-pow-succ n)
+
+-- the remainder of a number that holds the divisor once
+pub less-once : {p n : ℕ} → p ≤ n → n < p + p → n % p ≡ n - p
+less-once {p} {n} above below = mod-eq-sub-mod above ∙ mod-eq-of-lt (omega arith)
 
 -- 1 shifted to the place above bit n, and the bits below that place
 module _ (n : ℕ) (small : n < 16) where
@@ -27,7 +35,7 @@ wrapped p a m x r ha hm hx hr e =
     (by-order (r + (m + x)) p
     (λ h. let s : r + (m + x) ≡ a = sym (mod-eq-of-lt h) ∙ e in rw (le-ltb a (m + x) (omega arith)) (omega arith))
     (λ h.
-    let s : r + (m + x) - p ≡ a = sym (mod-eq-sub-mod h ∙ mod-eq-of-lt (omega arith)) ∙ e in
+    let s : r + (m + x) - p ≡ a = sym (less-once h (omega arith)) ∙ e in
     rw (lt-ltb a (m + x) (omega arith)) (omega arith)))
 
 -- to double the low seven bits of a byte is to double it modulo 256

@@ -1,7 +1,10 @@
 -- The condition code register. CC holds V, I1, H, I0, N, Z, C at bits 7, 5, 4, 3, 2, 1, 0; no operation puts in bit 6, I1 or I0.
 use Prim.Native.Nat.{ℕ, _-_}
+use mathlib.Core.Path.{_≡_}
 use mathlib.Core.Bool.{Bool, true, false, not}
+use mathlib.Core.List.{List, [], _∷_}
 use lib.Dec.{eqb}
+use Rattle.numbers.specs.Bits.{bit}
 use Rattle.arithmetic.specs.Bits.{isSet, withBit}
 
 -- the flags of CC
@@ -36,6 +39,14 @@ withC c cc = withBit 0 c cc
 -- N and Z of a result of width w: N is its top bit, Z is set where it is zero
 unfoldable pub withNZ : ℕ → ℕ → ℕ → ℕ
 withNZ w r cc = withN (isSet (w - 1) r) (withZ (eqb r 0) cc)
+
+-- the bits of CC that no operation puts in: bit 6, I1 and I0
+unfoldable pub rest : ℕ → List ℕ
+rest cc = bit 6 cc ∷ bit 5 cc ∷ bit 3 cc ∷ []
+
+-- CC after an operation has them as CC before it
+abbrev pub Keeps : ℕ → ℕ → Type 0
+Keeps cc after = rest after ≡ rest cc
 
 -- - - - - - - 1
 abbrev pub SCF : ℕ → ℕ

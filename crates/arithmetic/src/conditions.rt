@@ -78,17 +78,10 @@ pub fn jrmi(cc: u8) -> bool
     negative(cc)
 }
 
-// N differs from V: signed lower than.
-pub fn jrslt(cc: u8) -> bool
-    ensures { λ r. ⌜ r ≡ JRSLT cc ⌝ }
+pub fn jrsgt(cc: u8) -> bool
+    ensures { λ r. ⌜ r ≡ JRSGT cc ⌝ }
 {
-    negative(cc) != overflow(cc)
-}
-
-pub fn jrsge(cc: u8) -> bool
-    ensures { λ r. ⌜ r ≡ JRSGE cc ⌝ }
-{
-    !jrslt(cc)
+    !jrsle(cc)
 }
 
 pub fn jrsle(cc: u8) -> bool
@@ -97,8 +90,15 @@ pub fn jrsle(cc: u8) -> bool
     zero(cc) | jrslt(cc)
 }
 
-pub fn jrsgt(cc: u8) -> bool
-    ensures { λ r. ⌜ r ≡ JRSGT cc ⌝ }
+pub fn jrsge(cc: u8) -> bool
+    ensures { λ r. ⌜ r ≡ JRSGE cc ⌝ }
 {
-    !jrsle(cc)
+    !jrslt(cc)
+}
+
+// N differs from V: signed lower than.
+pub fn jrslt(cc: u8) -> bool
+    ensures { λ r. ⌜ r ≡ JRSLT cc ⌝ }
+{
+    negative(cc) != overflow(cc)
 }

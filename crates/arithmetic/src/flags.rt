@@ -64,7 +64,7 @@ fn with_n_and_z(n: bool, z: bool, cc: u8) -> u8
 pub fn with_nz_of_byte(value: u8, cc: u8) -> u8
     ensures { λ r. ⌜ r ≡ withNZ 8 value cc ⌝ }
 {
-    with_n_and_z(value / 128 % 2 == 1, value == 0, cc)
+    with_n_and_z(is_set(7, value), value == 0, cc)
 }
 
 // CC with N and Z of a word.

@@ -6,6 +6,7 @@ use crate::accumulator::result_nz;
 use crate::bits::is_set;
 use crate::flags;
 use crate::sums;
+use numbers::bits::bit;
 use numbers::bits::flag;
 
 // A value that affects N, Z and C.
@@ -82,7 +83,7 @@ pub fn sll(m: u8, cc: u8) -> ByteResult
 pub fn sra(m: u8, cc: u8) -> ByteResult
     ensures { λ r. ⌜ r ≡ SRA m cc ⌝ }
 {
-    result_nzc(m / 128 % 2 * 128 + m / 2, is_set(0, m), cc)
+    result_nzc(bit(7, m) * 128 + m / 2, is_set(0, m), cc)
 }
 
 pub fn srl(m: u8, cc: u8) -> ByteResult

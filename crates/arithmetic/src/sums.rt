@@ -10,7 +10,7 @@ use crate::flags::with_v;
 use numbers::bits::flag;
 
 // The carry out of bit n of a + m + c.
-fn carry(n: u32, a: u32, m: u32, c: bool) -> bool
+fn carry_out(n: u32, a: u32, m: u32, c: bool) -> bool
     requires { ⌜ n < 16 ⌝ }
     ensures { λ r. ⌜ r ≡ carryOut n a m c ⌝ }
 {
@@ -19,7 +19,7 @@ fn carry(n: u32, a: u32, m: u32, c: bool) -> bool
 }
 
 // The borrow out of bit n of a - m - c.
-fn borrow(n: u32, a: u32, m: u32, c: bool) -> bool
+fn borrow_out(n: u32, a: u32, m: u32, c: bool) -> bool
     requires { ⌜ n < 16 ⌝ }
     ensures { λ r. ⌜ r ≡ borrowOut n a m c ⌝ }
 {
@@ -32,7 +32,7 @@ fn sum_overflow(w: u32, a: u32, m: u32, c: bool) -> bool
     requires { ⌜ (2 ≤ w) × (w ≤ 16) ⌝ }
     ensures { λ r. ⌜ r ≡ sumOverflow w a m c ⌝ }
 {
-    carry(w - 1, a, m, c) != carry(w - 2, a, m, c)
+    carry_out(w - 1, a, m, c) != carry_out(w - 2, a, m, c)
 }
 
 // V of a difference of width w.
@@ -40,7 +40,7 @@ fn difference_overflow(w: u32, a: u32, m: u32, c: bool) -> bool
     requires { ⌜ (2 ≤ w) × (w ≤ 16) ⌝ }
     ensures { λ r. ⌜ r ≡ differenceOverflow w a m c ⌝ }
 {
-    borrow(w - 1, a, m, c) != borrow(w - 2, a, m, c)
+    borrow_out(w - 1, a, m, c) != borrow_out(w - 2, a, m, c)
 }
 
 pub fn byte_sum(a: u8, m: u8, c: bool) -> u8
@@ -72,21 +72,21 @@ pub fn word_difference(a: u16, m: u16) -> u16
 pub fn byte_half_carry(a: u8, m: u8, c: bool) -> bool
     ensures { λ r. ⌜ r ≡ carryOut 3 a m c ⌝ }
 {
-    carry(3, a as u32, m as u32, c)
+    carry_out(3, a as u32, m as u32, c)
 }
 
 // H of ADDW.
 pub fn word_half_carry(a: u16, m: u16) -> bool
     ensures { λ r. ⌜ r ≡ carryOut 7 a m false ⌝ }
 {
-    carry(7, a as u32, m as u32, false)
+    carry_out(7, a as u32, m as u32, false)
 }
 
 // H of SUBW.
 pub fn word_half_borrow(a: u16, m: u16) -> bool
     ensures { λ r. ⌜ r ≡ borrowOut 7 a m false ⌝ }
 {
-    borrow(7, a as u32, m as u32, false)
+    borrow_out(7, a as u32, m as u32, false)
 }
 
 // CC after a + m + c of bytes.
@@ -94,7 +94,7 @@ pub fn after_byte_sum(a: u8, m: u8, c: bool, cc: u8) -> u8
     ensures { λ r. ⌜ r ≡ afterSum 8 a m c cc ⌝ }
 {
     let v = sum_overflow(8, a as u32, m as u32, c);
-    let carry = carry(7, a as u32, m as u32, c);
+    let carry = carry_out(7, a as u32, m as u32, c);
     with_v(v, with_c(carry, with_nz_of_byte(byte_sum(a, m, c), cc)))
 }
 
@@ -103,7 +103,7 @@ pub fn after_byte_difference(a: u8, m: u8, c: bool, cc: u8) -> u8
     ensures { λ r. ⌜ r ≡ afterDifference 8 a m c cc ⌝ }
 {
     let v = difference_overflow(8, a as u32, m as u32, c);
-    let borrow = borrow(7, a as u32, m as u32, c);
+    let borrow = borrow_out(7, a as u32, m as u32, c);
     with_v(
         v,
         with_c(borrow, with_nz_of_byte(byte_difference(a, m, c), cc)),
@@ -115,7 +115,7 @@ pub fn after_word_sum(a: u16, m: u16, cc: u8) -> u8
     ensures { λ r. ⌜ r ≡ afterSum 16 a m false cc ⌝ }
 {
     let v = sum_overflow(16, a as u32, m as u32, false);
-    let carry = carry(15, a as u32, m as u32, false);
+    let carry = carry_out(15, a as u32, m as u32, false);
     with_v(v, with_c(carry, with_nz_of_word(word_sum(a, m), cc)))
 }
 
@@ -124,7 +124,7 @@ pub fn after_word_difference(a: u16, m: u16, cc: u8) -> u8
     ensures { λ r. ⌜ r ≡ afterDifference 16 a m false cc ⌝ }
 {
     let v = difference_overflow(16, a as u32, m as u32, false);
-    let borrow = borrow(15, a as u32, m as u32, false);
+    let borrow = borrow_out(15, a as u32, m as u32, false);
     with_v(
         v,
         with_c(borrow, with_nz_of_word(word_difference(a, m), cc)),

@@ -1,8 +1,8 @@
 -- What an arm of a `match` on a column or a row says of the map: one computed test over the sixteen.
 use Prim.Native.Nat.{ℕ, _/_, _%_, _<_}
-use mathlib.Core.Path.{_≡_, refl, ap, sym, _∙_, subst}
+use mathlib.Core.Path.{_≡_, refl, ap, sym, subst}
 use mathlib.Core.Bool.{Bool, true, false, cond}
-use mathlib.Core.List.{List, [], _∷_, map}
+use mathlib.Core.List.{List, [], map}
 use native.Mathlib.Omega.{arith}
 use lib.Dec.{eqb}
 use lib.ListN.{getD}
@@ -53,5 +53,6 @@ pub last-row : (last : ℕ) (row : List Entry) (page : List (List Entry)) (keys 
     i ≡ orElse i (getD (getD page (op / 16) []) (op % 16) Blank)
 unfolding inRow
 last-row last row page keys e op i h none at =
-    let found : cond (eqb (op / 16) last) row [] ≡ getD page (op / 16) [] = rest 15 keys (λ k. cond (eqb k last) row []) (λ k. getD page k []) e (op / 16) (omega arith) none in
+    let found : cond (eqb (op / 16) last) row [] ≡ getD page (op / 16) [] =
+    rest 15 keys (λ k. cond (eqb k last) row []) (λ k. getD page k []) e (op / 16) (omega arith) none in
     subst (λ (r : List Entry). i ≡ orElse i (getD r (op % 16) Blank)) found (or-blank (eqb (op / 16) last) row (op % 16) i at)

@@ -1,6 +1,6 @@
 -- Whether an op-code is in the set, by the columns that its row has.
 use Prim.Native.Nat.{ℕ, zero, suc, _+_, _*_, _/_, _%_, _^_}
-use mathlib.Core.Path.{_≡_, refl, ap, sym, _∙_}
+use mathlib.Core.Path.{_≡_, refl, ap}
 use mathlib.Core.Bool.{true, false}
 use mathlib.Core.List.{List, [], _∷_}
 use native.Mathlib.Nat.{div-one, zero-div, pow-succ', div-div-eq-div-mul}
@@ -27,22 +27,22 @@ column-bit (e ∷ row) zero = rw (div-one (presence e + 2 * columns row)) (lowes
 column-bit (e ∷ row) (suc k) =
     rw (pow-succ' 2 k, ← div-div-eq-div-mul (presence e + 2 * columns row) 2 (2 ^ k), others e (columns row)) (column-bit row k)
 
-by-presence : (e : Entry) (size : ℕ) (i : Instruction) → eqb (presence e) 1 ≡ true → i ≡ orElse i e → Found i size ≡ foundAs size e
-by-presence Blank size i h at = let z : _≡_ {A = ℕ} 0 1 = cc in absurd (omega arith)
-by-presence (Is j) size i h at = ap (λ n. Found n size) at
+by-presence : (e : Entry) (length : ℕ) (i : Instruction) → eqb (presence e) 1 ≡ true → i ≡ orElse i e → Found i length ≡ foundAs length e
+by-presence Blank length i h at = let z : _≡_ {A = ℕ} 0 1 = cc in absurd (omega arith)
+by-presence (Is j) length i h at = ap (λ n. Found n length) at
 
-by-absence : (e : Entry) (size : ℕ) → eqb (presence e) 1 ≡ false → Outside ≡ foundAs size e
-by-absence Blank size h = refl
-by-absence (Is j) size h = let z : _≡_ {A = ℕ} 0 1 = cc in absurd (omega arith)
+by-absence : (e : Entry) (length : ℕ) → eqb (presence e) 1 ≡ false → Outside ≡ foundAs length e
+by-absence Blank length h = refl
+by-absence (Is j) length h = let z : _≡_ {A = ℕ} 0 1 = cc in absurd (omega arith)
 
 -- n tells the columns of the op-code's row
 module _ (row : List Entry) (op : ℕ) {n : ℕ} (of-row : n ≡ columns row) where
-  bit : n / 2 ^ (op % 16) % 2 ≡ presence (getD row (op % 16) Blank)
-  bit = rw (of-row) (column-bit row (op % 16))
+  column : n / 2 ^ (op % 16) % 2 ≡ presence (getD row (op % 16) Blank)
+  column = rw of-row (column-bit row (op % 16))
 
-  pub in-set : (size : ℕ) (i : Instruction) → eqb (n / 2 ^ (op % 16) % 2) 1 ≡ true → i ≡ orElse i (getD row (op % 16) Blank) →
-      Found i size ≡ foundAs size (getD row (op % 16) Blank)
-  in-set size i h = by-presence (getD row (op % 16) Blank) size i (rw (bit) at h)
+  pub in-set : (length : ℕ) (i : Instruction) → eqb (n / 2 ^ (op % 16) % 2) 1 ≡ true → i ≡ orElse i (getD row (op % 16) Blank) →
+      Found i length ≡ foundAs length (getD row (op % 16) Blank)
+  in-set length i h = by-presence (getD row (op % 16) Blank) length i (rw column at h)
 
-  pub not-in-set : (size : ℕ) → eqb (n / 2 ^ (op % 16) % 2) 1 ≡ false → Outside ≡ foundAs size (getD row (op % 16) Blank)
-  not-in-set size h = by-absence (getD row (op % 16) Blank) size (rw (bit) at h)
+  pub not-in-set : (length : ℕ) → eqb (n / 2 ^ (op % 16) % 2) 1 ≡ false → Outside ≡ foundAs length (getD row (op % 16) Blank)
+  not-in-set length h = by-absence (getD row (op % 16) Blank) length (rw column at h)

@@ -1,3 +1,3 @@
 pub mod Arms
 pub mod InSet
-pub mod Sizes
+pub mod Lengths

@@ -1,4 +1,4 @@
--- What the parts of decoding answer: a row, a page, the columns of a row, a page's table of lengths.
+-- What the parts of decoding answer: a row, a page, the columns of a row, a page's table of lengths. No public contract cites it.
 use Prim.Native.Nat.{ℕ, _+_, _*_, _%_}
 use mathlib.Core.List.{List, [], _∷_}
 use lib.ListN.{getD}
@@ -31,7 +31,7 @@ columns (e ∷ row) = presence e + 2 * columns row
 
 -- an op-code of the given length on a page, with the bytes after it
 unfoldable pub decodedAs : Page → ℕ → ℕ → ℕ → ℕ → ℕ → ℕ → Decoded
-decodedAs page op size a b c d = foundAs size (entry page op a b c d)
+decodedAs page op n a b c d = foundAs n (entry page op a b c d)
 
 -- the bytes on a page, by its table of lengths
 unfoldable pub byTable : Page → List ℕ → List ℕ → Decoded

@@ -1,5 +1,5 @@
 // Which columns of each row are in the set: a bit for each, column 0 on the right. Without pre-code all sixteen rows are spelled, so that
-// the compiler makes a table.
+// the compiler makes a table; the default, never reached, is no row's value, since the compiler drops arms that are as the default.
 ghost use mathlib.Core.Path.{_≡_};
 ghost use Prim.Native.Nat.{ℕ, _/_, _%_, _^_};
 ghost use lib.Dec.{eqb};

@@ -1,5 +1,6 @@
 // The operations that the columns of several rows have in common. All sixteen columns are spelled, so that the compiler makes a table;
-// LD and CLR fill those that are outside the set or hold something else.
+// LD and CLR fill those that are outside the set or hold something else. The default, never reached, is not one of these two, since the
+// compiler drops arms that are as the default, and with many dropped it makes jumps.
 ghost use mathlib.Core.Path.{_≡_};
 ghost use Prim.Native.Nat.{ℕ};
 ghost use Rattle.stm8.specs.OpcodeMap.{Blank, indexedRow, modifyRow, row2};

@@ -99,36 +99,37 @@ fn after_90_instruction(op: u8, a: u8, b: u8) -> Instruction
 }
 
 // An op-code of the given length, with the bytes after it: its instruction, if the op-code is in the set.
-fn plain_entry(op: u8, size: usize, a: u8, b: u8, c: u8, d: u8) -> Decoded
-    ensures { λ r. ⌜ r ≡ decodedAs Plain op size a b c d ⌝ }
+fn plain_entry(op: u8, length: usize, a: u8, b: u8, c: u8, d: u8) -> Decoded
+    ensures { λ r. ⌜ r ≡ decodedAs Plain op length a b c d ⌝ }
 {
     if has_column(plain_columns(op), op) {
-        Decoded::Found(plain_instruction(op, a, b, c, d), size)
+        Decoded::Found(plain_instruction(op, a, b, c, d), length)
     } else {
         Decoded::Outside
     }
 }
 
-fn after_72_entry(op: u8, size: usize, a: u8, b: u8, c: u8) -> Decoded
-    ensures { λ r. ⌜ r ≡ decodedAs After72 op size a b c 0 ⌝ }
+fn after_72_entry(op: u8, length: usize, a: u8, b: u8, c: u8) -> Decoded
+    ensures { λ r. ⌜ r ≡ decodedAs After72 op length a b c 0 ⌝ }
 {
     if has_column(after_72_columns(op), op) {
-        Decoded::Found(after_72_instruction(op, a, b, c), size)
+        Decoded::Found(after_72_instruction(op, a, b, c), length)
     } else {
         Decoded::Outside
     }
 }
 
-fn after_90_entry(op: u8, size: usize, a: u8, b: u8) -> Decoded
-    ensures { λ r. ⌜ r ≡ decodedAs After90 op size a b 0 0 ⌝ }
+fn after_90_entry(op: u8, length: usize, a: u8, b: u8) -> Decoded
+    ensures { λ r. ⌜ r ≡ decodedAs After90 op length a b 0 0 ⌝ }
 {
     if has_column(after_90_columns(op), op) {
-        Decoded::Found(after_90_instruction(op, a, b), size)
+        Decoded::Found(after_90_instruction(op, a, b), length)
     } else {
         Decoded::Outside
     }
 }
 
+// A length of a table. The cast has a function of its own, since an argument is known to be a byte, and an element of a lent array is not.
 fn wide(length: u8) -> usize
     ensures { λ r. ⌜ r ≡ length ⌝ }
 {
@@ -136,7 +137,7 @@ fn wide(length: u8) -> usize
 }
 
 // The length that a table has for an op-code.
-fn length_of(op: u8, lengths: &[u8; 256]) -> usize
+fn table_length(op: u8, lengths: &[u8; 256]) -> usize
     ensures { λ r. ⌜ r ≡ getD (now (lengths .entry)) op 0 ⌝ }
 {
     wide(lengths[op as usize])
@@ -150,16 +151,16 @@ pub fn plain(bytes: &[u8], lengths: &[u8; 256]) -> Decoded
         return Decoded::Truncated;
     }
     let op = byte_at(bytes, 0);
-    let size = length_of(op, lengths);
-    if size == 0 {
+    let length = table_length(op, lengths);
+    if length == 0 {
         return Decoded::Outside;
     }
-    if bytes.len() < size {
+    if bytes.len() < length {
         return Decoded::Truncated;
     }
     plain_entry(
         op,
-        size,
+        length,
         byte_at(bytes, 1),
         byte_at(bytes, 2),
         byte_at(bytes, 3),
@@ -175,16 +176,16 @@ pub fn after_72(bytes: &[u8], lengths: &[u8; 256]) -> Decoded
         return Decoded::Truncated;
     }
     let op = byte_at(bytes, 1);
-    let size = length_of(op, lengths);
-    if size == 0 {
+    let length = table_length(op, lengths);
+    if length == 0 {
         return Decoded::Outside;
     }
-    if bytes.len() < size {
+    if bytes.len() < length {
         return Decoded::Truncated;
     }
     after_72_entry(
         op,
-        size,
+        length,
         byte_at(bytes, 2),
         byte_at(bytes, 3),
         byte_at(bytes, 4),
@@ -199,12 +200,12 @@ pub fn after_90(bytes: &[u8], lengths: &[u8; 256]) -> Decoded
         return Decoded::Truncated;
     }
     let op = byte_at(bytes, 1);
-    let size = length_of(op, lengths);
-    if size == 0 {
+    let length = table_length(op, lengths);
+    if length == 0 {
         return Decoded::Outside;
     }
-    if bytes.len() < size {
+    if bytes.len() < length {
         return Decoded::Truncated;
     }
-    after_90_entry(op, size, byte_at(bytes, 2), byte_at(bytes, 3))
+    after_90_entry(op, length, byte_at(bytes, 2), byte_at(bytes, 3))
 }

@@ -1,3 +1,4 @@
 pub mod Growing
 pub mod Placing
 pub mod Sizes
+pub mod Targets

@@ -9,6 +9,7 @@ use lib.Dec.{T, leb, lit≤}
 use lib.ListN.{length, length-append}
 use Rattle.numbers.specs.Ascii.{ascii}
 use Rattle.stm8.specs.Encoding.{bytesOf}
+use Rattle.stm8.specs.IndexRegisters.{otherOf}
 use Rattle.stm8.specs.declared.Register.{Register}
 use Rattle.stm8.specs.declared.Register.the-variants.{X, Y}
 use Rattle.stm8.specs.declared.Half.{Half}
@@ -35,7 +36,7 @@ use Rattle.stm8.specs.declared.FlagOp.the-variants.{Ccf, Rcf, Rvf, Scf}
 use Rattle.stm8.specs.declared.Instruction.{Instruction}
 use Rattle.stm8.specs.declared.Instruction.the-variants.{Alu, Store, LoadHalf, StoreHalf, Modify, LoadWord, StoreWord, CopyWord, WordAlu, WordModify, Pushw, Popw, Exgw, Mul, Bit, BitJump, Mov, Push, Pop, SubSp, AddSp, Jump, Call, Callr, Ret, Nop, Flag}
 use Rattle.disassembly.specs.Names.{aluName, modifyName, wordAluName, wordModifyName, bitName, testName, conditionName, flagName}
-use Rattle.disassembly.specs.Notation.{word, bitPosition, register, other, half, operand, line, target, textBefore, text, longest}
+use Rattle.disassembly.specs.Notation.{wordText, bitPosition, registerText, halfText, operandText, line, target, textBefore, text, longest}
 
 pub length-cond : (t : Bool) (s : List ℕ) → length (cond t s []) ≡ cond t (length s) 0
 length-cond true s = refl
@@ -124,21 +125,17 @@ flag-size Rcf = within tt tt
 flag-size Rvf = within tt tt
 flag-size Scf = within tt tt
 
-register-size : (r : Register) → Sized 1 (register r)
+register-size : (r : Register) → Sized 1 (registerText r)
 register-size X = within tt tt
 register-size Y = within tt tt
 
-other-size : (r : Register) → Sized 1 (other r)
-other-size X = within tt tt
-other-size Y = within tt tt
-
-half-size : (r : Register) (h : Half) → Sized 2 (half r h)
+half-size : (r : Register) (h : Half) → Sized 2 (halfText r h)
 half-size X Low = within tt tt
 half-size X High = within tt tt
 half-size Y Low = within tt tt
 half-size Y High = within tt tt
 
-operand-size : (x : Operand) → Sized 9 (operand x)
+operand-size : (x : Operand) → Sized 9 (operandText x)
 operand-size Accumulator = within tt tt
 operand-size (Immediate n) = within tt tt
 operand-size (ImmediateWord w) = within tt tt
@@ -174,33 +171,29 @@ sizes next (StoreHalf r h) = two (exactly (ascii "LD") tt) (half-size r h) (exac
 sizes next (Modify o x) = one (modify-size o) (operand-size x) (lit≤ tt)
 sizes next (LoadWord r x) = two (exactly (ascii "LDW") tt) (register-size r) (operand-size x) (lit≤ tt)
 sizes next (StoreWord r x) = two (exactly (ascii "LDW") tt) (operand-size x) (register-size r) (lit≤ tt)
-sizes next (CopyWord r) = two (exactly (ascii "LDW") tt) (register-size r) (other-size r) (lit≤ tt)
+sizes next (CopyWord r) = two (exactly (ascii "LDW") tt) (register-size r) (register-size (otherOf r)) (lit≤ tt)
 sizes next (WordAlu o r w) = two (word-alu-size o) (register-size r) (operand-size (ImmediateWord w)) (lit≤ tt)
 sizes next (WordModify o r) = one (word-modify-size o) (register-size r) (lit≤ tt)
 sizes next (Pushw r) = one (exactly (ascii "PUSHW") tt) (register-size r) (lit≤ tt)
 sizes next (Popw r) = one (exactly (ascii "POPW") tt) (register-size r) (lit≤ tt)
 sizes next Exgw = within tt tt
 sizes next (Mul r) = two (exactly (ascii "MUL") tt) (register-size r) (exactly (ascii "A") tt) (lit≤ tt)
-sizes next (Bit o n w) = two (bit-size o) (exactly (word w) tt) (exactly (bitPosition n) tt) (lit≤ tt)
+sizes next (Bit o n w) = two (bit-size o) (exactly (wordText w) tt) (exactly (bitPosition n) tt) (lit≤ tt)
 sizes next (BitJump o n w j) =
-    three (test-size o) (exactly (word w) tt) (exactly (bitPosition n) tt) (exactly (word (target next j)) tt) (lit≤ tt)
+    three (test-size o) (exactly (wordText w) tt) (exactly (bitPosition n) tt) (exactly (wordText (target next j)) tt) (lit≤ tt)
 sizes next (Mov to from) = two (exactly (ascii "MOV") tt) (operand-size to) (operand-size from) (lit≤ tt)
 sizes next (Push x) = one (exactly (ascii "PUSH") tt) (operand-size x) (lit≤ tt)
 sizes next (Pop x) = one (exactly (ascii "POP") tt) (operand-size x) (lit≤ tt)
 sizes next (SubSp n) = within tt tt
 sizes next (AddSp n) = within tt tt
-sizes next (Jump o n) = one (condition-size o) (exactly (word (target next n)) tt) (lit≤ tt)
+sizes next (Jump o n) = one (condition-size o) (exactly (wordText (target next n)) tt) (lit≤ tt)
 sizes next (Call w) = within tt tt
 sizes next (Callr n) = within tt tt
 sizes next Ret = within tt tt
 sizes next Nop = within tt tt
 sizes next (Flag o) = alone (flag-size o) (lit≤ tt)
 
--- a text is never empty, and none is longer than `longest`, which one of them is
+-- a text is never empty, and none is longer than `longest`
 pub text-size : (address : ℕ) (i : Instruction) → Sized longest (text address i)
 unfolding text
 text-size address i = sizes (address + length (bytesOf i)) i
-
-pub longest-reached : length (text 0 (Mov (Indexed X (Word 0)) (Indexed X (Word 0)))) ≡ longest
-unfolding text
-longest-reached = refl

@@ -9,6 +9,7 @@ use lib.ListN.{length, getD, drop}
 use Rattle.numbers.specs.Ascii.{ascii}
 use Rattle.numbers.specs.Words.{high, low}
 use Rattle.stm8.specs.Encoding.{bytesOf}
+use Rattle.stm8.specs.IndexRegisters.{otherOf}
 use Rattle.stm8.specs.declared.Register.{Register}
 use Rattle.stm8.specs.declared.Register.the-variants.{X, Y}
 use Rattle.stm8.specs.declared.Half.{Half}
@@ -33,50 +34,46 @@ byteDigits n = digit (n / 16) ∷ digit n ∷ []
 abbrev pub wordDigits : ℕ → List ℕ
 wordDigits w = byteDigits (high w) ++ byteDigits (low w)
 
-abbrev pub byte : ℕ → List ℕ
-byte n = ascii "$" ++ byteDigits n
+abbrev pub byteText : ℕ → List ℕ
+byteText n = ascii "$" ++ byteDigits n
 
-abbrev pub word : ℕ → List ℕ
-word w = ascii "$" ++ wordDigits w
+abbrev pub wordText : ℕ → List ℕ
+wordText w = ascii "$" ++ wordDigits w
 
 abbrev pub bitPosition : ℕ → List ℕ
 bitPosition n = ascii "#" ++ (digit n ∷ [])
 
-abbrev pub register : Register → List ℕ
-register X = ascii "X"
-register Y = ascii "Y"
+abbrev pub registerText : Register → List ℕ
+registerText X = ascii "X"
+registerText Y = ascii "Y"
 
-abbrev pub other : Register → List ℕ
-other X = ascii "Y"
-other Y = ascii "X"
-
-abbrev pub half : Register → Half → List ℕ
-half r Low = register r ++ ascii "L"
-half r High = register r ++ ascii "H"
+abbrev pub halfText : Register → Half → List ℕ
+halfText r Low = registerText r ++ ascii "L"
+halfText r High = registerText r ++ ascii "H"
 
 -- an offset in front of its register
-abbrev pub offset : Offset → List ℕ
-offset Zero = []
-offset (Byte n) = byte n ++ ascii ","
-offset (Word w) = word w ++ ascii ","
+abbrev pub offsetText : Offset → List ℕ
+offsetText Zero = []
+offsetText (Byte n) = byteText n ++ ascii ","
+offsetText (Word w) = wordText w ++ ascii ","
 
-abbrev pub operand : Operand → List ℕ
-operand Accumulator = ascii "A"
-operand (Immediate n) = ascii "#" ++ byte n
-operand (ImmediateWord w) = ascii "#" ++ word w
-operand (Short a) = byte a
-operand (Long a) = word a
-operand (Indexed r f) = ascii "(" ++ offset f ++ register r ++ ascii ")"
-operand (Sp n) = ascii "(" ++ byte n ++ ascii ",SP)"
+abbrev pub operandText : Operand → List ℕ
+operandText Accumulator = ascii "A"
+operandText (Immediate n) = ascii "#" ++ byteText n
+operandText (ImmediateWord w) = ascii "#" ++ wordText w
+operandText (Short a) = byteText a
+operandText (Long a) = wordText a
+operandText (Indexed r f) = ascii "(" ++ offsetText f ++ registerText r ++ ascii ")"
+operandText (Sp n) = ascii "(" ++ byteText n ++ ascii ",SP)"
 
 -- the operands after a name: a space before the first, a comma before each other
-abbrev pub others : List (List ℕ) → List ℕ
-others [] = []
-others (x ∷ xs) = ascii "," ++ x ++ others xs
+abbrev pub furtherOperands : List (List ℕ) → List ℕ
+furtherOperands [] = []
+furtherOperands (x ∷ xs) = ascii "," ++ x ++ furtherOperands xs
 
 abbrev pub operands : List (List ℕ) → List ℕ
 operands [] = []
-operands (x ∷ xs) = ascii " " ++ x ++ others xs
+operands (x ∷ xs) = ascii " " ++ x ++ furtherOperands xs
 
 abbrev pub line : List ℕ → List (List ℕ) → List ℕ
 line name xs = name ++ operands xs
@@ -91,30 +88,30 @@ target next n = (next + extended n) % 0x10000
 
 -- the text of an instruction that the address `next` follows. One outside the set, which document 01 leaves free, has its text by the same rules.
 abbrev pub textBefore : ℕ → Instruction → List ℕ
-textBefore next (Alu o x) = line (aluName o) (ascii "A" ∷ operand x ∷ [])
-textBefore next (Store x) = line (ascii "LD") (operand x ∷ ascii "A" ∷ [])
-textBefore next (LoadHalf r h) = line (ascii "LD") (ascii "A" ∷ half r h ∷ [])
-textBefore next (StoreHalf r h) = line (ascii "LD") (half r h ∷ ascii "A" ∷ [])
-textBefore next (Modify o x) = line (modifyName o) (operand x ∷ [])
-textBefore next (LoadWord r x) = line (ascii "LDW") (register r ∷ operand x ∷ [])
-textBefore next (StoreWord r x) = line (ascii "LDW") (operand x ∷ register r ∷ [])
-textBefore next (CopyWord r) = line (ascii "LDW") (register r ∷ other r ∷ [])
-textBefore next (WordAlu o r w) = line (wordAluName o) (register r ∷ operand (ImmediateWord w) ∷ [])
-textBefore next (WordModify o r) = line (wordModifyName o) (register r ∷ [])
-textBefore next (Pushw r) = line (ascii "PUSHW") (register r ∷ [])
-textBefore next (Popw r) = line (ascii "POPW") (register r ∷ [])
+textBefore next (Alu o x) = line (aluName o) (ascii "A" ∷ operandText x ∷ [])
+textBefore next (Store x) = line (ascii "LD") (operandText x ∷ ascii "A" ∷ [])
+textBefore next (LoadHalf r h) = line (ascii "LD") (ascii "A" ∷ halfText r h ∷ [])
+textBefore next (StoreHalf r h) = line (ascii "LD") (halfText r h ∷ ascii "A" ∷ [])
+textBefore next (Modify o x) = line (modifyName o) (operandText x ∷ [])
+textBefore next (LoadWord r x) = line (ascii "LDW") (registerText r ∷ operandText x ∷ [])
+textBefore next (StoreWord r x) = line (ascii "LDW") (operandText x ∷ registerText r ∷ [])
+textBefore next (CopyWord r) = line (ascii "LDW") (registerText r ∷ registerText (otherOf r) ∷ [])
+textBefore next (WordAlu o r w) = line (wordAluName o) (registerText r ∷ operandText (ImmediateWord w) ∷ [])
+textBefore next (WordModify o r) = line (wordModifyName o) (registerText r ∷ [])
+textBefore next (Pushw r) = line (ascii "PUSHW") (registerText r ∷ [])
+textBefore next (Popw r) = line (ascii "POPW") (registerText r ∷ [])
 textBefore next Exgw = line (ascii "EXGW") (ascii "X" ∷ ascii "Y" ∷ [])
-textBefore next (Mul r) = line (ascii "MUL") (register r ∷ ascii "A" ∷ [])
-textBefore next (Bit o n w) = line (bitName o) (operand (Long w) ∷ bitPosition n ∷ [])
-textBefore next (BitJump o n w j) = line (testName o) (operand (Long w) ∷ bitPosition n ∷ word (target next j) ∷ [])
-textBefore next (Mov to from) = line (ascii "MOV") (operand to ∷ operand from ∷ [])
-textBefore next (Push x) = line (ascii "PUSH") (operand x ∷ [])
-textBefore next (Pop x) = line (ascii "POP") (operand x ∷ [])
-textBefore next (SubSp n) = line (ascii "SUB") (ascii "SP" ∷ operand (Immediate n) ∷ [])
-textBefore next (AddSp n) = line (ascii "ADDW") (ascii "SP" ∷ operand (Immediate n) ∷ [])
-textBefore next (Jump o n) = line (conditionName o) (word (target next n) ∷ [])
-textBefore next (Call w) = line (ascii "CALL") (word w ∷ [])
-textBefore next (Callr n) = line (ascii "CALLR") (word (target next n) ∷ [])
+textBefore next (Mul r) = line (ascii "MUL") (registerText r ∷ ascii "A" ∷ [])
+textBefore next (Bit o n w) = line (bitName o) (operandText (Long w) ∷ bitPosition n ∷ [])
+textBefore next (BitJump o n w j) = line (testName o) (operandText (Long w) ∷ bitPosition n ∷ wordText (target next j) ∷ [])
+textBefore next (Mov to from) = line (ascii "MOV") (operandText to ∷ operandText from ∷ [])
+textBefore next (Push x) = line (ascii "PUSH") (operandText x ∷ [])
+textBefore next (Pop x) = line (ascii "POP") (operandText x ∷ [])
+textBefore next (SubSp n) = line (ascii "SUB") (ascii "SP" ∷ operandText (Immediate n) ∷ [])
+textBefore next (AddSp n) = line (ascii "ADDW") (ascii "SP" ∷ operandText (Immediate n) ∷ [])
+textBefore next (Jump o n) = line (conditionName o) (wordText (target next n) ∷ [])
+textBefore next (Call w) = line (ascii "CALL") (wordText w ∷ [])
+textBefore next (Callr n) = line (ascii "CALLR") (wordText (target next n) ∷ [])
 textBefore next Ret = line (ascii "RET") []
 textBefore next Nop = line (ascii "NOP") []
 textBefore next (Flag o) = line (flagName o) []

@@ -1,4 +1,4 @@
--- How the code goes about a text: a name in five letters, and a text that grows at its end.
+-- How the code goes about a text: a name in five letters, and a text that grows at its end. No public contract cites it.
 use Prim.Native.Nat.{ℕ, _+_}
 use mathlib.Core.List.{List, [], _∷_}
 use mathlib.Core.Bool.{cond}

@@ -2,7 +2,8 @@
 ghost use mathlib.Core.Path.{_≡_};
 ghost use mathlib.Core.List.{[], _∷_};
 ghost use Rattle.numbers.specs.Ascii.{ascii};
-ghost use Rattle.disassembly.specs.Notation.{digit, byteDigits, byte as byteText, word as wordText, bitPosition, register as registerText, other as otherText, half as halfText, offset as offsetText, operand as operandText};
+ghost use Rattle.stm8.specs.IndexRegisters.{otherOf};
+ghost use Rattle.disassembly.specs.Notation.{digit, byteDigits, byteText, wordText, bitPosition, registerText, halfText, offsetText, operandText};
 ghost use Rattle.disassembly.specs.Writing.{trimmed, blank, pushed, wrote};
 use crate::LONGEST;
 use numbers::words;
@@ -118,7 +119,7 @@ impl Text {
 
     // The index register that r is not.
     pub fn other(self, separator: u8, r: Register) -> Text
-        ensures { λ t. ⌜ t ≡ wrote self (separator ∷ otherText r) ⌝ }
+        ensures { λ t. ⌜ t ≡ wrote self (separator ∷ registerText (otherOf r)) ⌝ }
     {
         match r {
             Register::X => self.letter(separator, b'Y'),
@@ -169,8 +170,8 @@ impl Text {
                 .push(b')'),
             Operand::Sp(n) => self.letter(separator, b'(')
                 .push_byte(n)
-                .letter(b',', b'S')
-                .letter(b'P', b')'),
+                .stack_pointer(b',')
+                .push(b')'),
         }
     }
 }

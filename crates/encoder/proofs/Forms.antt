@@ -1,5 +1,5 @@
 -- What the functions under `encode` give, with the op-codes that it hands them, is what the definitions say.
-use Prim.Native.Nat.{ℕ, suc, _+_, _*_}
+use Prim.Native.Nat.{ℕ, suc, _+_}
 use mathlib.Core.Path.{_≡_, refl}
 use mathlib.Core.Bool.{Bool, true, false, cond}
 use mathlib.Core.List.{[], _∷_}
@@ -42,8 +42,15 @@ mov-long to = elim [ Accumulator ↦ refl | Immediate n ↦ refl | ImmediateWord
 row : (n k : ℕ) → eqb (suc n + k) 0 ≡ false
 row n k = ne-eqb (suc n + k) 0 (λ e. omega (arith, e))
 
-pub modify : (o : ModifyOp) (x : Operand) → operandForm 0x72 (0x40 + modifyColumn o) 0 0 (0x30 + modifyColumn o) (0x50 + modifyColumn o) 0 x ≡ padded (modifyBytes o x)
-modify o = elim [ Accumulator ↦ rw (row 0x3f (modifyColumn o)) | Immediate n ↦ refl | ImmediateWord w ↦ refl | Short n ↦ rw (row 0x2f (modifyColumn o)) | Long w ↦ rw (row 0x4f (modifyColumn o)) | Indexed r f ↦ refl | Sp n ↦ refl ]
+pub modify : (o : ModifyOp) (x : Operand) →
+    operandForm 0x72 (0x40 + modifyColumn o) 0 0 (0x30 + modifyColumn o) (0x50 + modifyColumn o) 0 x ≡ padded (modifyBytes o x)
+modify o Accumulator = rw (row 0x3f (modifyColumn o))
+modify o (Immediate n) = refl
+modify o (ImmediateWord w) = refl
+modify o (Short n) = rw (row 0x2f (modifyColumn o))
+modify o (Long w) = rw (row 0x4f (modifyColumn o))
+modify o (Indexed r f) = refl
+modify o (Sp n) = refl
 
 -- either register
 pub on-register-byte : (r : Register) (code n : ℕ) → appended (padded (onRegister r (code ∷ []))) n ≡ padded (onRegister r (code ∷ n ∷ []))
@@ -55,6 +62,7 @@ on-register-word X code w = refl
 on-register-word Y code w = refl
 
 -- a bit position in range or not, and a jump's offset
-pub bit-jump : (t : Bool) (code w j : ℕ) → appended (padded (cond t (0x72 ∷ code ∷ high w ∷ low w ∷ []) [])) j ≡ padded (cond t (0x72 ∷ code ∷ high w ∷ low w ∷ j ∷ []) [])
+pub bit-jump : (t : Bool) (code w j : ℕ) →
+    appended (padded (cond t (0x72 ∷ code ∷ high w ∷ low w ∷ []) [])) j ≡ padded (cond t (0x72 ∷ code ∷ high w ∷ low w ∷ j ∷ []) [])
 bit-jump true code w j = refl
 bit-jump false code w j = refl

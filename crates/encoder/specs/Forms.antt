@@ -1,4 +1,4 @@
--- What the functions under `encode` give. Nobody has to believe these: laws in proofs/ tie them to the bytes of an instruction.
+-- What the functions under `encode` give. No public contract cites it: laws in proofs/ tie it to the bytes of an instruction.
 use Prim.Native.Nat.{ℕ, _+_}
 use mathlib.Core.List.{List, [], _∷_}
 use mathlib.Core.Bool.{cond}
@@ -23,7 +23,9 @@ opcodeBytes precode code = cond (eqb code 0) [] (cond (eqb precode 0) (code ∷ 
 
 -- one byte more; where there is no instruction, none
 abbrev pub appended : Encoded → ℕ → Encoded
-appended e byte = cond (eqb (e .length) 0) e (cond (ltb (e .length) 5) (record { number = e .number; length = e .length + 1; bytes = set (e .bytes) (e .length) byte }) e)
+appended e byte =
+    cond (eqb (e .length) 0) e
+    (cond (ltb (e .length) 5) (record { number = e .number; length = e .length + 1; bytes = set (e .bytes) (e .length) byte }) e)
 
 abbrev pub appendedWord : Encoded → ℕ → Encoded
 appendedWord e w = appended (appended e (high w)) (low w)

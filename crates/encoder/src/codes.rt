@@ -1,4 +1,4 @@
-// Op-codes, their low digits and pre-codes, where a name or a register alone decides them.
+// Op-codes, their columns and pre-codes, where a name or a register alone decides them.
 ghost use mathlib.Core.Path.{_≡_};
 ghost use Prim.Native.Nat.{_<_};
 ghost use Rattle.stm8.specs.Encoding.{aluColumn, modifyColumn, conditionColumn, aluSp, loadHalfCode, storeHalfCode, loadWordSp, storeWordSp, wordModifyCode, bitPrecode, bitCode, testCode, flagCode};

@@ -131,29 +131,29 @@ fn on_operand(
     }
 }
 
-// An operation on A with an indexed operand, by the low digit of its op-codes.
-fn indexed(digit: u8, r: Register, f: Offset) -> Encoded
-    requires { ⌜ digit < 16 ⌝ }
-    ensures { λ e. ⌜ e ≡ padded (onRegister r (indexedBytes digit f)) ⌝ }
+// An operation on A with an indexed operand, by the column of its op-codes.
+fn indexed(column: u8, r: Register, f: Offset) -> Encoded
+    requires { ⌜ column < 16 ⌝ }
+    ensures { λ e. ⌜ e ≡ padded (onRegister r (indexedBytes column f)) ⌝ }
 {
     match f {
-        Offset::Word(w) => append_word(on_register(r, 0xd0 + digit), w),
-        Offset::Byte(n) => append(on_register(r, 0xe0 + digit), n),
-        Offset::Zero => on_register(r, 0xf0 + digit),
+        Offset::Word(w) => append_word(on_register(r, 0xd0 + column), w),
+        Offset::Byte(n) => append(on_register(r, 0xe0 + column), n),
+        Offset::Zero => on_register(r, 0xf0 + column),
     }
 }
 
 fn alu(o: AluOp, x: Operand) -> Encoded
     ensures { λ r. ⌜ r ≡ padded (aluBytes o x) ⌝ }
 {
-    let digit = alu_column(o);
+    let column = alu_column(o);
     match x {
         Operand::Accumulator => NONE,
-        Operand::Immediate(n) => two_bytes(0xa0 + digit, n),
+        Operand::Immediate(n) => two_bytes(0xa0 + column, n),
         Operand::ImmediateWord(_) => NONE,
-        Operand::Short(n) => two_bytes(0xb0 + digit, n),
-        Operand::Long(w) => append_word(one_byte(0xc0 + digit), w),
-        Operand::Indexed(r, f) => indexed(digit, r, f),
+        Operand::Short(n) => two_bytes(0xb0 + column, n),
+        Operand::Long(w) => append_word(one_byte(0xc0 + column), w),
+        Operand::Indexed(r, f) => indexed(column, r, f),
         Operand::Sp(n) => two_bytes(alu_sp(o), n),
     }
 }
@@ -212,8 +212,17 @@ pub fn encode(i: Instruction) -> Encoded
         Instruction::LoadHalf(r, h) => on_register(r, load_half_code(h)),
         Instruction::StoreHalf(r, h) => on_register(r, store_half_code(h)),
         Instruction::Modify(o, x) => {
-            let digit = modify_column(o);
-            on_operand(x, 0x72, 0x40 + digit, 0, 0, 0x30 + digit, 0x50 + digit, 0)
+            let column = modify_column(o);
+            on_operand(
+                x,
+                0x72,
+                0x40 + column,
+                0,
+                0,
+                0x30 + column,
+                0x50 + column,
+                0,
+            )
         }
         Instruction::LoadWord(r, x) => {
             on_operand(x, precode(r), 0, 0, 0xae, 0, 0xce, load_word_sp(r))

@@ -1,8 +1,9 @@
 // Compares decoding, text and encoding with data/encodings.txt: a line for each encoding that an assembler made, its text, a tab and
 // its bytes in hexadecimal, with the instruction at 8000.
+use disassembly::LONGEST;
 use disassembly::Written;
+use hexadecimal::parse;
 use libc::STDOUT_FILENO;
-use numbers::words::byte_at;
 use std::num::wrapping_add_u64;
 use stm8::Decoded;
 use stm8::Instruction;
@@ -20,51 +21,19 @@ struct Totals {
     differences: u64,
 }
 
-fn hex_digit(c: u8) -> u8 {
-    if c < b'A' { c % 16 } else { (c % 16 + 9) % 16 }
-}
-
-fn hex_byte(high: u8, low: u8) -> u8 {
-    hex_digit(high) % 16 * 16 + hex_digit(low) % 16
-}
-
-fn code_of(hex: &[u8]) -> Code {
-    let mut code = Code {
-        bytes: [0; 5],
-        length: 0,
-    };
-    for k in 0..5 {
-        if 2 * k + 1 < hex.len() {
-            code.bytes[k] = hex_byte(hex[2 * k], hex[2 * k + 1]);
-            code.length = k + 1;
-        }
-    }
-    code
-}
-
-// Whether two slices differ in their first n bytes.
-fn differ(a: &[u8], b: &[u8], n: usize) -> bool {
-    for k in 0..n {
-        if byte_at(a, k) != byte_at(b, k) {
-            return true;
-        }
-    }
-    false
-}
-
 fn text_differs(i: Instruction, text: &[u8]) -> bool {
-    let mut buffer = [0u8; 32];
+    let mut buffer = [0u8; LONGEST];
     let Written::Bytes(n) = disassembly::disassemble(i, ADDRESS, &mut buffer) else {
         return true;
     };
-    n != text.len() || differ(&buffer, text, n)
+    !check::same(&buffer[..n], text)
 }
 
 fn bytes_differ(i: Instruction, code: Code) -> bool {
     let encoded = encoder::encode(i);
     let made = encoded.bytes;
     let given = code.bytes;
-    encoded.number != 0 || encoded.length != code.length || differ(&made, &given, 5)
+    encoded.number != 0 || encoded.length != code.length || !check::same(&made, &given)
 }
 
 // How many of the three, length, text and bytes, are not as a line says.
@@ -83,8 +52,9 @@ fn line_differences(line: &[u8]) -> u64 {
     if line.len() <= tab {
         return 3;
     }
-    let code = code_of(&line[tab + 1..]);
-    differences(&line[..tab], code)
+    let mut bytes = [0u8; 5];
+    let length = parse(&line[tab + 1..], &mut bytes);
+    differences(&line[..tab], Code { bytes, length })
 }
 
 fn compare(file: &[u8]) -> Totals {

@@ -4,8 +4,8 @@ use mathlib.Core.Path.{_≡_, refl, sym, ap, _∙_}
 use mathlib.Core.List.{List, [], _∷_, _++_, append-assoc, append-nil}
 use native.Mathlib.Numerals.{add-one}
 use native.Mathlib.Omega.{arith}
-use lib.ListN.{length, getD, take, drop, set, length-set, length-drop}
-use lib.Seq.{drop-cons, take-suc-set, take-nil}
+use lib.ListN.{length, getD, take, drop, set, length-drop, take-append-drop}
+use lib.Seq.{drop-cons, drop-drop, drop-set-lt, take-suc-set, take-nil}
 use borrow.Author.Tests.{lt-ltb, le-ltb}
 use Rattle.hexadecimal.specs.Text.{digit, pair, spelled}
 
@@ -71,3 +71,11 @@ full text bytes whole size n i e known =
 pub ended : (text bytes whole : List ℕ) (size n i : ℕ) → length text ≤ i + 1 → Whole text bytes whole size n i → take n bytes ≡ whole
 ended text bytes whole size n i h known =
     sym (append-nil (take n bytes)) ∙ (rw (short (drop i text) (simp length-drop (omega arith)), take-nil) at known)
+
+-- the bytes after those so far stay
+pub after-stored : (entry bytes : List ℕ) (n v : ℕ) → drop n bytes ≡ drop n entry → drop (n + 1) (set bytes n v) ≡ drop (n + 1) entry
+after-stored entry bytes n v same =
+    drop-set-lt (n + 1) bytes n v (omega arith) ∙ sym (drop-drop 1 n bytes) ∙ ap (drop 1) same ∙ drop-drop 1 n entry
+
+pub both-parts : (entry bytes whole : List ℕ) (n : ℕ) → take n bytes ≡ whole → drop n bytes ≡ drop n entry → bytes ≡ whole ++ drop n entry
+both-parts entry bytes whole n front same = sym (take-append-drop n bytes) ∙ rw (front, same)

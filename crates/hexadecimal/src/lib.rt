@@ -1,11 +1,12 @@
-// Bytes as hexadecimal text.
+// Bytes from hexadecimal text.
 ghost use mathlib.Core.Path.{_≡_};
 ghost use Prim.Native.Nat.{_≤_};
-ghost use lib.ListN.{length, take};
+ghost use mathlib.Core.List.{_++_};
+ghost use lib.ListN.{length, take, drop};
 ghost use Rattle.hexadecimal.specs.Text.{digit as digitOf, pair as pairOf, spelled};
 
 // The value of a digit, 16 for any other character.
-pub fn digit(c: u8) -> u8
+fn digit(c: u8) -> u8
     ensures { λ r. ⌜ r ≡ digitOf c ⌝ }
 {
     if c < b'0' {
@@ -34,10 +35,10 @@ fn pair(c: u8, d: u8) -> u16
     256
 }
 
-// Writes the bytes that a text spells, as many as there is room for, and gives their number.
+// Writes the bytes that a text spells, as many as there is room for, and gives their number; the bytes after them stay.
 pub fn parse(text: &[u8], bytes: &mut [u8]) -> usize
     ensures { λ r. ⌜ r ≤ length (now (bytes .exit)) ⌝ }
-    ensures { λ r. ⌜ take r (now (bytes .exit)) ≡ take (length (now (bytes .entry))) (spelled (now (text .entry))) ⌝ }
+    ensures { λ r. ⌜ now (bytes .exit) ≡ take (length (now (bytes .entry))) (spelled (now (text .entry))) ++ drop r (now (bytes .entry)) ⌝ }
 {
     let mut n = 0;
     let mut i = 0;

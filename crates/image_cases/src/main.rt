@@ -1,5 +1,5 @@
-// Runs refusals 1 to 4 and acceptance, a line a case: what the case is about, and the refusal's number, 0 where nothing is refused.
-ghost use mathlib.Core.Path.{_≡_};
+// Runs refusals 1 to 4 and acceptance at the borders that check_cases has no case of, a line a case: what the case is about, and the
+// refusal's number, 0 where nothing is refused.
 ghost use Prim.Native.Nat.{_+_, _≤_};
 ghost use lib.ListN.{length};
 use libc::STDOUT_FILENO;
@@ -7,27 +7,14 @@ use libc::STDOUT_FILENO;
 // grant 0000-00FF, stack 0300-03FF
 const LIMITS: [u8; 8] = [0x00, 0x00, 0x00, 0xFF, 0x03, 0x00, 0x03, 0xFF];
 
-// The bytes in front, then zeros.
-fn with_zeros(front: &[u8]) -> [u8; 4200]
-    requires { ⌜ length (now front) ≤ 4200 ⌝ }
-    ensures { λ r. ⌜ 4200 ≡ length r ⌝ }
-{
-    let mut bytes = [0u8; 4200];
-    let mut i = 0;
-    while i < front.len() {
-        bytes[i] = front[i];
-        i += 1;
-    }
-    bytes
-}
-
-// One case: an image of a header and of that many code bytes.
+// One case: an image of a header and of that many code bytes, all 00.
 fn case(label: &[u8], limits: &[u8], header: &[u8], code: usize)
     requires { ⌜ length (now header) + code ≤ 4200 ⌝ }
 {
-    let bytes = with_zeros(header);
+    let mut cells = [0u8; 4200];
+    bytes::copy(header, &mut cells);
     let end = header.len() + code;
-    let validated = image::validate(&bytes[..end], image::limits_of(limits));
+    let validated = image::validate(&cells[..end], image::limits_of(limits));
     io::write_all(STDOUT_FILENO, label);
     io::write_all(STDOUT_FILENO, b": ");
     io::print_decimal(STDOUT_FILENO, image::validation_number(validated) as u64);
@@ -45,17 +32,13 @@ fn with_image(label: &[u8], header: &[u8], code: usize)
 }
 
 fn limits_cases() {
-    with_limits(b"stack low 0000", b"\x00\x00\x00\xFF\x00\x00\x03\xFF");
     with_limits(b"grant low above high", b"\x01\x00\x00\xFF\x03\x00\x03\xFF");
     with_limits(b"stack low above high", b"\x00\x00\x00\xFF\x04\x00\x03\xFF");
     with_limits(b"grant high 8000", b"\x04\x00\x80\x00\x03\x00\x03\xFF");
     with_limits(b"stack high 8000", b"\x00\x00\x00\xFF\x03\x00\x80\x00");
-    with_limits(b"areas share 0300", b"\x00\x00\x03\x00\x03\x00\x03\xFF");
     with_limits(b"areas share 03FF", b"\x03\xFF\x04\xFF\x03\x00\x03\xFF");
     with_limits(b"grant inside stack", b"\x03\x10\x03\x20\x03\x00\x03\xFF");
     with_limits(b"no limits", b"");
-    case(b"limits before mark", b"", b"SL", 0);
-    with_limits(b"areas touch", b"\x00\x00\x02\xFF\x03\x00\x03\xFF");
     with_limits(
         b"grant above stack, to 7FFF",
         b"\x04\x00\x7F\xFF\x00\x01\x03\xFF",
@@ -63,30 +46,18 @@ fn limits_cases() {
     with_limits(b"one address each", b"\x00\x00\x00\x00\x00\x01\x00\x01");
 }
 
-fn mark_cases() {
-    with_image(b"53 4C", b"SL", 0);
+fn mark_and_version_cases() {
     with_image(b"empty", b"", 0);
-    with_image(b"seven bytes", b"SLU\x00\x01\x80\x00", 0);
     with_image(b"SLV", b"SLV\x00\x01\x80\x00\x01\x00\x01", 1);
-    with_image(
-        b"mark before version",
-        b"slu\x00\x02\x80\x00\x01\x00\x01",
-        1,
-    );
-}
-
-fn version_cases() {
-    with_image(b"version 0002", b"SLU\x00\x02\x80\x00\x01\x00\x01", 1);
     with_image(b"version 0101", b"SLU\x01\x01\x80\x00\x01\x00\x01", 1);
-    with_image(
-        b"version before a cut length list",
-        b"SLU\x00\x02\x80\x00\x20",
-        0,
-    );
 }
 
-fn layout_cases() {
-    with_image(b"count 0", b"SLU\x00\x01\x80\x00\x00", 0);
+fn length_list_cases() {
+    with_image(
+        b"count 32",
+        b"SLU\x00\x01\x80\x00\x20\x00\x01\x00\x01\x00\x01\x00\x01\x00\x01\x00\x01\x00\x01\x00\x01\x00\x01\x00\x01\x00\x01\x00\x01\x00\x01\x00\x01\x00\x01\x00\x01\x00\x01\x00\x01\x00\x01\x00\x01\x00\x01\x00\x01\x00\x01\x00\x01\x00\x01\x00\x01\x00\x01\x00\x01\x00\x01\x00\x01\x00\x01\x00\x01",
+        32,
+    );
     with_image(
         b"count 33",
         b"SLU\x00\x01\x80\x00\x21\x00\x01\x00\x01\x00\x01\x00\x01\x00\x01\x00\x01\x00\x01\x00\x01\x00\x01\x00\x01\x00\x01\x00\x01\x00\x01\x00\x01\x00\x01\x00\x01\x00\x01\x00\x01\x00\x01\x00\x01\x00\x01\x00\x01\x00\x01\x00\x01\x00\x01\x00\x01\x00\x01\x00\x01\x00\x01\x00\x01\x00\x01\x00\x01\x00\x01",
@@ -98,12 +69,19 @@ fn layout_cases() {
         b"SLU\x00\x01\x80\x00\x02\x00\x01\x00\x00",
         1,
     );
-    with_image(b"4097 code bytes", b"SLU\x00\x01\x80\x00\x01\x10\x01", 4097);
-    with_image(b"base 7FFF", b"SLU\x00\x01\x7F\xFF\x01\x00\x01", 1);
     with_image(
-        b"base FFFF, two bytes",
-        b"SLU\x00\x01\xFF\xFF\x01\x00\x02",
-        2,
+        b"length list cut",
+        b"SLU\x00\x01\x80\x00\x02\x00\x01\x00",
+        0,
+    );
+}
+
+fn code_cases() {
+    with_image(b"4097 code bytes", b"SLU\x00\x01\x80\x00\x01\x10\x01", 4097);
+    with_image(
+        b"base F000, 4096 bytes",
+        b"SLU\x00\x01\xF0\x00\x01\x10\x00",
+        4096,
     );
     with_image(
         b"base F001, 4096 bytes",
@@ -120,50 +98,11 @@ fn layout_cases() {
         b"SLU\x00\x01\x80\x00\x01\x00\x02",
         1,
     );
-    with_image(
-        b"length list cut",
-        b"SLU\x00\x01\x80\x00\x02\x00\x01\x00",
-        0,
-    );
-    with_image(
-        b"lengths FFFF 0002, one byte",
-        b"SLU\x00\x01\x80\x00\x02\xFF\xFF\x00\x02",
-        1,
-    );
-}
-
-fn accepted_cases() {
-    with_image(
-        b"base 8000, one byte",
-        b"SLU\x00\x01\x80\x00\x01\x00\x01",
-        1,
-    );
-    with_image(
-        b"base FFFF, one byte",
-        b"SLU\x00\x01\xFF\xFF\x01\x00\x01",
-        1,
-    );
-    with_image(
-        b"base F000, 4096 bytes",
-        b"SLU\x00\x01\xF0\x00\x01\x10\x00",
-        4096,
-    );
-    with_image(
-        b"lengths 3 and 4",
-        b"SLU\x00\x01\x80\x00\x02\x00\x03\x00\x04",
-        7,
-    );
-    with_image(
-        b"count 32",
-        b"SLU\x00\x01\x80\x00\x20\x00\x01\x00\x01\x00\x01\x00\x01\x00\x01\x00\x01\x00\x01\x00\x01\x00\x01\x00\x01\x00\x01\x00\x01\x00\x01\x00\x01\x00\x01\x00\x01\x00\x01\x00\x01\x00\x01\x00\x01\x00\x01\x00\x01\x00\x01\x00\x01\x00\x01\x00\x01\x00\x01\x00\x01\x00\x01\x00\x01\x00\x01\x00\x01",
-        32,
-    );
 }
 
 fn main() {
     limits_cases();
-    mark_cases();
-    version_cases();
-    layout_cases();
-    accepted_cases();
+    mark_and_version_cases();
+    length_list_cases();
+    code_cases();
 }

@@ -17,4 +17,7 @@ decode-by-spec =
     (λ c κs. search needs)
     (λ c. rw (c .after-90 .ensures, ← c .before .before .before .byte-at .ensures, ne-eqb _ _ (c .before .before .if1 .left), c .before .if2 .taken))
     (λ c κs. search needs)
-    (λ c. rw (c .plain .ensures, ← c .before .before .before .byte-at .ensures, ne-eqb _ _ (c .before .before .if1 .left), ne-eqb _ _ (c .before .if2 .left), c .before .before .before .byte-at .ensures)))
+    (λ c.
+    let c2 = c .before .before in
+    let c3 = c2 .before in
+    rw (c .plain .ensures, ← c3 .byte-at .ensures, ne-eqb _ _ (c2 .if1 .left), ne-eqb _ _ (c .before .if2 .left), c3 .byte-at .ensures)))

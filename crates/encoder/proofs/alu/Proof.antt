@@ -19,6 +19,9 @@ alu-spec =
     (λ c. rw (c .two-bytes .ensures, c .before .before .before .before .alu-column .ensures .0, c .before .before .x .given .1))
     (λ c. rw (c .enum-told2 .given .1))
     (λ c. rw (c .two-bytes2 .ensures, c .before .before .before .before .alu-column .ensures .0, c .before .before .x2 .given .1))
-    (λ c. rw (c .append-word .ensures, c .before .one-byte .ensures, c .before .before .before .before .before .alu-column .ensures .0, c .before .before .before .x3 .given .1))
+    (λ c.
+    let c2 = c .before .before in
+    let c4 = c2 .before .before in
+    rw (c .append-word .ensures, c .before .one-byte .ensures, c4 .before .alu-column .ensures .0, c2 .before .x3 .given .1))
     (λ c. rw (c .indexed .ensures, c .before .before .before .before .alu-column .ensures .0, c .before .before .x4 .given .1))
     (λ c. rw (c .two-bytes3 .ensures, c .before .alu-sp .ensures, c .before .before .before .x5 .given .1)))

@@ -42,9 +42,15 @@ encode-spec =
     (λ c. rw (c .on-operand .ensures, c .before .before .i2 .given .1, store))
     (λ c. rw (c .on-register .ensures, c .before .load-half-code .ensures, c .before .before .before .i3 .given .1))
     (λ c. rw (c .on-register2 .ensures, c .before .store-half-code .ensures, c .before .before .before .i4 .given .1))
-    (λ c. let i = c .before .before .before .i5 .given in rw (c .on-operand2 .ensures, c .before .modify-column .ensures .0, i .1, modify (i .0 .0) (i .0 .1 .0)))
-    (λ c. let i = c .before .before .before .before .i6 .given in rw (c .on-operand3 .ensures, c .before .load-word-sp .ensures, c .before .before .precode .ensures, i .1, load-word (i .0 .0) (i .0 .1 .0)))
-    (λ c. let i = c .before .before .before .before .i7 .given in rw (c .on-operand4 .ensures, c .before .store-word-sp .ensures, c .before .before .precode2 .ensures, i .1, store-word (i .0 .0) (i .0 .1 .0)))
+    (λ c.
+    let i = c .before .before .before .i5 .given in
+    rw (c .on-operand2 .ensures, c .before .modify-column .ensures .0, i .1, modify (i .0 .0) (i .0 .1 .0)))
+    (λ c.
+    let i = c .before .before .before .before .i6 .given in
+    rw (c .on-operand3 .ensures, c .before .load-word-sp .ensures, c .before .before .precode .ensures, i .1, load-word (i .0 .0) (i .0 .1 .0)))
+    (λ c.
+    let i = c .before .before .before .before .i7 .given in
+    rw (c .on-operand4 .ensures, c .before .store-word-sp .ensures, c .before .before .precode2 .ensures, i .1, store-word (i .0 .0) (i .0 .1 .0)))
     (λ c. rw (c .on-register3 .ensures, c .before .before .i8 .given .1))
     (λ c. rw (c .word-alu .ensures, c .before .before .i9 .given .1))
     (λ c. rw (c .on-register4 .ensures, c .before .word-modify-code .ensures, c .before .before .before .i10 .given .1))
@@ -53,7 +59,10 @@ encode-spec =
     (λ c. rw (c .one-byte .ensures, c .before .enum-told .given .1))
     (λ c. rw (c .on-register7 .ensures, c .before .before .i13 .given .1))
     (λ c. rw (c .at-bit .ensures, c .before .bit-code .ensures .0, c .before .before .bit-precode .ensures, c .before .before .before .before .i14 .given .1))
-    (λ c. let i = c .before .before .before .before .i15 .given in rw (c .append .ensures, c .before .at-bit2 .ensures, c .before .before .test-code .ensures .0, i .1, bit-jump (leb (i .0 .1 .0) 7) (testCode (i .0 .0) + 2 * i .0 .1 .0) (i .0 .1 .1 .0) (i .0 .1 .1 .1 .0)))
+    (λ c.
+    let i = c .before .before .before .before .i15 .given in
+    rw (c .append .ensures, c .before .at-bit2 .ensures, c .before .before .test-code .ensures .0)
+    (rw (i .1, bit-jump (leb (i .0 .1 .0) 7) (testCode (i .0 .0) + 2 * i .0 .1 .0) (i .0 .1 .1 .0) (i .0 .1 .1 .1 .0))))
     (λ c. rw (c .mov .ensures, c .before .before .i16 .given .1))
     (λ c. rw (c .on-operand5 .ensures, c .before .before .i17 .given .1, push))
     (λ c. rw (c .on-operand6 .ensures, c .before .before .i18 .given .1, pop))

@@ -13,5 +13,5 @@ pub line-differences-spec : {M : Type 1} → statement M
 line-differences-spec =
     tie.close
     (tie.spec (λ c κs. search needs) (λ c. search needs)
-    (λ c. search needs) (λ c. search needs) (λ c. search needs) (λ c. search needs) (λ c κs. search needs)
+    (λ c. search needs) (λ c. search needs) (λ c. search needs) (λ c. search needs) (λ c. search needs) (λ c κs. search needs)
     slice-aggregate-differences (λ c κs. search needs) (λ c. search needs))

@@ -14,12 +14,14 @@ sub-result c =
 add-result : tie.Need-add-result
 add-result c =
     let b = c .before .before .before in
-    record { fits = rw (c .flag .ensures, c .before .bit .ensures) (exchanged-fits (b .args .position) (b .args .value) (b .args .holds) (c .before .before .if1 .taken) (b .fits .value .fits)) }
+    let fits = exchanged-fits (b .args .position) (b .args .value) (b .args .holds) (c .before .before .if1 .taken) (b .fits .value .fits) in
+    record { fits = rw (c .flag .ensures, c .before .bit .ensures) fits }
 
 returns : tie.Need-returns
 returns c =
     let b = c .before .before .before in
-    rw (c .flag .ensures, c .before .bit .ensures) (exchanged (b .args .position) (b .args .value) (b .args .holds) (c .before .before .if1 .taken) (b .fits .value .fits))
+    rw (c .flag .ensures, c .before .bit .ensures)
+    (exchanged (b .args .position) (b .args .value) (b .args .holds) (c .before .before .if1 .taken) (b .fits .value .fits))
 
 returns-2 : tie.Need-returns-2
 unfolding withBit

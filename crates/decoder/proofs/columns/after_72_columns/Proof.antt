@@ -1,6 +1,6 @@
 -- `decoder::columns::after_72_columns` meets its contract.
 use Prim.Native.Nat.{_/_}
-use mathlib.Core.Path.{refl, sym}
+use mathlib.Core.Path.{refl}
 use mathlib.Core.List.{[], _∷_}
 use native.Mathlib.Omega.{arith}
 use lib.ListN.{getD}
@@ -18,4 +18,6 @@ after-72-columns-spec =
     (λ c₀ a b c. rw (c₀ .match .keys2))
     (λ c₀ a b c. rw (c₀ .match .keys3))
     (λ c₀ a b c. rw (c₀ .match .keys4))
-    (λ c₀ a b c. rest 15 (10 ∷ 5 ∷ 1 ∷ 0 ∷ []) (λ k. 0) (λ k. columns (getD (after72Page a b c) k [])) refl (c₀ .before .args .op / 16) (let h = c₀ .before .fits .op .fits in omega arith) (c₀ .match .rest)))
+    (λ c₀ a b c.
+    rest 15 (10 ∷ 5 ∷ 1 ∷ 0 ∷ []) (λ k. 0) (λ k. columns (getD (after72Page a b c) k [])) refl (c₀ .before .args .op / 16)
+    (let h = c₀ .before .fits .op .fits in omega arith) (c₀ .match .rest)))

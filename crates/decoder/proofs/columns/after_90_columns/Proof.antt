@@ -1,6 +1,6 @@
 -- `decoder::columns::after_90_columns` meets its contract.
 use Prim.Native.Nat.{_/_}
-use mathlib.Core.Path.{refl, sym}
+use mathlib.Core.Path.{refl}
 use mathlib.Core.List.{[], _∷_}
 use native.Mathlib.Omega.{arith}
 use lib.ListN.{getD}
@@ -24,4 +24,6 @@ after-90-columns-spec =
     (λ c₀ a b. rw (c₀ .match .keys8))
     (λ c₀ a b. rw (c₀ .match .keys9))
     (λ c₀ a b. rw (c₀ .match .keys10))
-    (λ c₀ a b. rest 15 (15 ∷ 14 ∷ 13 ∷ 12 ∷ 10 ∷ 9 ∷ 8 ∷ 5 ∷ 4 ∷ 1 ∷ []) (λ k. 0) (λ k. columns (getD (after90Page a b) k [])) refl (c₀ .before .args .op / 16) (let h = c₀ .before .fits .op .fits in omega arith) (c₀ .match .rest)))
+    (λ c₀ a b.
+    rest 15 (15 ∷ 14 ∷ 13 ∷ 12 ∷ 10 ∷ 9 ∷ 8 ∷ 5 ∷ 4 ∷ 1 ∷ []) (λ k. 0) (λ k. columns (getD (after90Page a b) k [])) refl
+    (c₀ .before .args .op / 16) (let h = c₀ .before .fits .op .fits in omega arith) (c₀ .match .rest)))

@@ -1,6 +1,6 @@
 -- `decoder::columns::plain_columns` meets its contract.
 use Prim.Native.Nat.{_/_}
-use mathlib.Core.Path.{refl, sym}
+use mathlib.Core.Path.{refl}
 use mathlib.Core.List.{[], _∷_}
 use native.Mathlib.Omega.{arith}
 use lib.ListN.{getD}
@@ -30,4 +30,6 @@ plain-columns-spec =
     (λ c₀ a b c d. rw (c₀ .match .keys14))
     (λ c₀ a b c d. rw (c₀ .match .keys15))
     (λ c₀ a b c d. rw (c₀ .match .keys16))
-    (λ c₀ a b c d. rest 15 (15 ∷ 14 ∷ 13 ∷ 12 ∷ 11 ∷ 10 ∷ 9 ∷ 8 ∷ 7 ∷ 6 ∷ 5 ∷ 4 ∷ 3 ∷ 2 ∷ 1 ∷ 0 ∷ []) (λ k. 1) (λ k. columns (getD (plainPage a b c d) k [])) refl (c₀ .before .args .op / 16) (let h = c₀ .before .fits .op .fits in omega arith) (c₀ .match .rest)))
+    (λ c₀ a b c d.
+    rest 15 (15 ∷ 14 ∷ 13 ∷ 12 ∷ 11 ∷ 10 ∷ 9 ∷ 8 ∷ 7 ∷ 6 ∷ 5 ∷ 4 ∷ 3 ∷ 2 ∷ 1 ∷ 0 ∷ []) (λ k. 1) (λ k. columns (getD (plainPage a b c d) k []))
+    refl (c₀ .before .args .op / 16) (let h = c₀ .before .fits .op .fits in omega arith) (c₀ .match .rest)))

@@ -30,4 +30,6 @@ alu-of-spec =
     (λ c x. rw (c .match .keys14))
     (λ c x. rw (c .match .keys15))
     (λ c x. rw (c .match .keys16))
-    (λ c x. otherwise (15 ∷ 14 ∷ 13 ∷ 12 ∷ 11 ∷ 10 ∷ 9 ∷ 8 ∷ 7 ∷ 6 ∷ 5 ∷ 4 ∷ 3 ∷ 2 ∷ 1 ∷ 0 ∷ []) (indexedRow x) (Alu Sub x) refl (c .before .args .op) (c .match .rest)))
+    (λ c x.
+    otherwise (15 ∷ 14 ∷ 13 ∷ 12 ∷ 11 ∷ 10 ∷ 9 ∷ 8 ∷ 7 ∷ 6 ∷ 5 ∷ 4 ∷ 3 ∷ 2 ∷ 1 ∷ 0 ∷ []) (indexedRow x) (Alu Sub x) refl (c .before .args .op)
+    (c .match .rest)))

@@ -30,4 +30,6 @@ condition-of-spec =
     (λ c a. rw (c .match .keys14))
     (λ c a. rw (c .match .keys15))
     (λ c a. rw (c .match .keys16))
-    (λ c a. otherwise (15 ∷ 14 ∷ 13 ∷ 12 ∷ 11 ∷ 10 ∷ 9 ∷ 8 ∷ 7 ∷ 6 ∷ 5 ∷ 4 ∷ 3 ∷ 2 ∷ 1 ∷ 0 ∷ []) (row2 a) (Jump Jra a) refl (c .before .args .op) (c .match .rest)))
+    (λ c a.
+    otherwise (15 ∷ 14 ∷ 13 ∷ 12 ∷ 11 ∷ 10 ∷ 9 ∷ 8 ∷ 7 ∷ 6 ∷ 5 ∷ 4 ∷ 3 ∷ 2 ∷ 1 ∷ 0 ∷ []) (row2 a) (Jump Jra a) refl (c .before .args .op)
+    (c .match .rest)))

@@ -17,5 +17,13 @@ after-72-entry-spec =
     (λ c κs. tt)
     (λ c κs. tt)
     (λ c κs. tt)
-    (λ c. let s = c .before .before .before .before .args in in-set (getD (after72Page (s .a) (s .b) (s .c)) (s .op / 16) []) (s .op) (c .before .before .before .after-72-columns .ensures (s .a) (s .b) (s .c)) (s .size) (c .after-72-instruction .result) (sym (c .before .before .has-column .ensures) ∙ c .before .if1 .taken) (c .after-72-instruction .ensures))
-    (λ c. let s = c .before .before .before .args in not-in-set (getD (after72Page (s .a) (s .b) (s .c)) (s .op / 16) []) (s .op) (c .before .before .after-72-columns .ensures (s .a) (s .b) (s .c)) (s .size) (sym (c .before .has-column .ensures) ∙ c .if1 .left)))
+    (λ c.
+    let c2 = c .before .before in
+    let s = c2 .before .before .args in
+    in-set (getD (after72Page (s .a) (s .b) (s .c)) (s .op / 16) []) (s .op) (c2 .before .after-72-columns .ensures (s .a) (s .b) (s .c))
+    (s .length) (c .after-72-instruction .result) (sym (c2 .has-column .ensures) ∙ c .before .if1 .taken) (c .after-72-instruction .ensures))
+    (λ c.
+    let c2 = c .before .before in
+    let s = c2 .before .args in
+    not-in-set (getD (after72Page (s .a) (s .b) (s .c)) (s .op / 16) []) (s .op) (c2 .after-72-columns .ensures (s .a) (s .b) (s .c)) (s .length)
+    (sym (c .before .has-column .ensures) ∙ c .if1 .left)))

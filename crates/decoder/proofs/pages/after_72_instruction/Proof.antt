@@ -24,4 +24,8 @@ after-72-instruction-spec =
     (λ c. rw (c .before .match .keys1, ← c .before .before .word .ensures) (c .bit-jump-row .ensures))
     (λ c. rw (c .before .match .keys2, ← c .before .before .word .ensures) (c .bit-row .ensures))
     (λ c. rw (c .before .match .keys3, ← c .before .before .word .ensures) (c .row-72-5 .ensures))
-    (λ c. let s = c .before .before .before .args in last-row 10 (two 2 (WordAlu Subw Y (word (s .a) (s .b))) 9 (WordAlu Addw Y (word (s .a) (s .b)))) (after72Page (s .a) (s .b) (s .c)) (5 ∷ 1 ∷ 0 ∷ []) refl (s .op) _ (c .before .before .before .fits .op .fits) (c .before .match .rest) (rw (c .before .before .word .ensures) at (c .row-72-a .ensures))))
+    (λ c.
+    let c2 = c .before .before in
+    let s = c2 .before .args in
+    last-row 10 (two 2 (WordAlu Subw Y (word (s .a) (s .b))) 9 (WordAlu Addw Y (word (s .a) (s .b)))) (after72Page (s .a) (s .b) (s .c))
+    (5 ∷ 1 ∷ 0 ∷ []) refl (s .op) _ (c2 .before .fits .op .fits) (c .before .match .rest) (rw (c2 .word .ensures) at (c .row-72-a .ensures))))

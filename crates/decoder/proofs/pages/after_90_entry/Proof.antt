@@ -17,5 +17,13 @@ after-90-entry-spec =
     (λ c κs. tt)
     (λ c κs. tt)
     (λ c κs. tt)
-    (λ c. let s = c .before .before .before .before .args in in-set (getD (after90Page (s .a) (s .b)) (s .op / 16) []) (s .op) (c .before .before .before .after-90-columns .ensures (s .a) (s .b)) (s .size) (c .after-90-instruction .result) (sym (c .before .before .has-column .ensures) ∙ c .before .if1 .taken) (c .after-90-instruction .ensures))
-    (λ c. let s = c .before .before .before .args in not-in-set (getD (after90Page (s .a) (s .b)) (s .op / 16) []) (s .op) (c .before .before .after-90-columns .ensures (s .a) (s .b)) (s .size) (sym (c .before .has-column .ensures) ∙ c .if1 .left)))
+    (λ c.
+    let c2 = c .before .before in
+    let s = c2 .before .before .args in
+    in-set (getD (after90Page (s .a) (s .b)) (s .op / 16) []) (s .op) (c2 .before .after-90-columns .ensures (s .a) (s .b)) (s .length)
+    (c .after-90-instruction .result) (sym (c2 .has-column .ensures) ∙ c .before .if1 .taken) (c .after-90-instruction .ensures))
+    (λ c.
+    let c2 = c .before .before in
+    let s = c2 .before .args in
+    not-in-set (getD (after90Page (s .a) (s .b)) (s .op / 16) []) (s .op) (c2 .after-90-columns .ensures (s .a) (s .b)) (s .length)
+    (sym (c .before .has-column .ensures) ∙ c .if1 .left)))

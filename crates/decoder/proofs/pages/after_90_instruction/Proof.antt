@@ -35,4 +35,8 @@ after-90-instruction-spec =
     (λ c. rw (c .before .match .keys7, ← c .before .before .word .ensures) (c .row-90-c .ensures))
     (λ c. rw (c .before .match .keys8, ← c .before .before .word .ensures) (c .long-offset-row .ensures))
     (λ c. rw (c .before .match .keys9) (c .short-offset-row .ensures))
-    (λ c. let s = c .before .before .before .args in last-row 15 (indexedRow (Indexed Y Zero)) (after90Page (s .a) (s .b)) (14 ∷ 13 ∷ 12 ∷ 10 ∷ 9 ∷ 8 ∷ 5 ∷ 4 ∷ 1 ∷ []) refl (s .op) _ (c .before .before .before .fits .op .fits) (c .before .match .rest) (c .no-offset-row .ensures)))
+    (λ c.
+    let c2 = c .before .before in
+    let s = c2 .before .args in
+    last-row 15 (indexedRow (Indexed Y Zero)) (after90Page (s .a) (s .b)) (14 ∷ 13 ∷ 12 ∷ 10 ∷ 9 ∷ 8 ∷ 5 ∷ 4 ∷ 1 ∷ []) refl (s .op) _
+    (c2 .before .fits .op .fits) (c .before .match .rest) (c .no-offset-row .ensures)))

@@ -17,5 +17,14 @@ plain-entry-spec =
     (λ c κs. tt)
     (λ c κs. tt)
     (λ c κs. tt)
-    (λ c. let s = c .before .before .before .before .args in in-set (getD (plainPage (s .a) (s .b) (s .c) (s .d)) (s .op / 16) []) (s .op) (c .before .before .before .plain-columns .ensures (s .a) (s .b) (s .c) (s .d)) (s .size) (c .plain-instruction .result) (sym (c .before .before .has-column .ensures) ∙ c .before .if1 .taken) (c .plain-instruction .ensures))
-    (λ c. let s = c .before .before .before .args in not-in-set (getD (plainPage (s .a) (s .b) (s .c) (s .d)) (s .op / 16) []) (s .op) (c .before .before .plain-columns .ensures (s .a) (s .b) (s .c) (s .d)) (s .size) (sym (c .before .has-column .ensures) ∙ c .if1 .left)))
+    (λ c.
+    let c2 = c .before .before in
+    let s = c2 .before .before .args in
+    in-set (getD (plainPage (s .a) (s .b) (s .c) (s .d)) (s .op / 16) []) (s .op)
+    (c2 .before .plain-columns .ensures (s .a) (s .b) (s .c) (s .d)) (s .length) (c .plain-instruction .result)
+    (sym (c2 .has-column .ensures) ∙ c .before .if1 .taken) (c .plain-instruction .ensures))
+    (λ c.
+    let c2 = c .before .before in
+    let s = c2 .before .args in
+    not-in-set (getD (plainPage (s .a) (s .b) (s .c) (s .d)) (s .op / 16) []) (s .op) (c2 .plain-columns .ensures (s .a) (s .b) (s .c) (s .d))
+    (s .length) (sym (c .before .has-column .ensures) ∙ c .if1 .left)))

@@ -47,4 +47,9 @@ plain-instruction-spec =
     (λ c. rw (c .before .match .keys12, ← c .before .before .word .ensures) (c .row-c .ensures))
     (λ c. rw (c .before .match .keys13, ← c .before .before .word .ensures) (c .long-offset-row .ensures))
     (λ c. rw (c .before .match .keys14) (c .short-offset-row .ensures))
-    (λ c. let s = c .before .before .before .args in last-row 15 (indexedRow (Indexed X Zero)) (plainPage (s .a) (s .b) (s .c) (s .d)) (14 ∷ 13 ∷ 12 ∷ 11 ∷ 10 ∷ 9 ∷ 8 ∷ 7 ∷ 6 ∷ 5 ∷ 4 ∷ 3 ∷ 2 ∷ 1 ∷ []) refl (s .op) _ (c .before .before .before .fits .op .fits) (c .before .match .rest) (c .no-offset-row .ensures)))
+    (λ c.
+    let c2 = c .before .before in
+    let s = c2 .before .args in
+    last-row 15 (indexedRow (Indexed X Zero)) (plainPage (s .a) (s .b) (s .c) (s .d))
+    (14 ∷ 13 ∷ 12 ∷ 11 ∷ 10 ∷ 9 ∷ 8 ∷ 7 ∷ 6 ∷ 5 ∷ 4 ∷ 3 ∷ 2 ∷ 1 ∷ []) refl (s .op) _ (c2 .before .fits .op .fits) (c .before .match .rest)
+    (c .no-offset-row .ensures)))

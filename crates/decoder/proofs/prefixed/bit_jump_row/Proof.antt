@@ -12,5 +12,9 @@ unfolding inRow
 bit-jump-row-spec =
     tie.close
     (tie.spec
-    (λ c. let s = c .before .args in rw (bit-column (λ n. BitJump Btjt n (s .ab) (s .offset)) (λ n. BitJump Btjf n (s .ab) (s .offset)) (s .op), c .if1 .taken))
-    (λ c. let s = c .before .args in rw (bit-column (λ n. BitJump Btjt n (s .ab) (s .offset)) (λ n. BitJump Btjf n (s .ab) (s .offset)) (s .op), ne-eqb _ _ (c .if1 .left))))
+    (λ c.
+    let s = c .before .args in
+    rw (bit-column (λ n. BitJump Btjt n (s .ab) (s .offset)) (λ n. BitJump Btjf n (s .ab) (s .offset)) (s .op), c .if1 .taken))
+    (λ c.
+    let s = c .before .args in
+    rw (bit-column (λ n. BitJump Btjt n (s .ab) (s .offset)) (λ n. BitJump Btjf n (s .ab) (s .offset)) (s .op), ne-eqb _ _ (c .if1 .left))))

@@ -16,4 +16,6 @@ row-72-a-spec =
     tie.close
     (tie.spec
     (λ c. rw (c .match .keys1))
-    (λ c. let s = c .before .args in otherwise (2 ∷ []) (two 2 (WordAlu Subw Y (s .ab)) 9 (WordAlu Addw Y (s .ab))) (WordAlu Addw Y (s .ab)) refl (s .op) (c .match .rest)))
+    (λ c.
+    let s = c .before .args in
+    otherwise (2 ∷ []) (two 2 (WordAlu Subw Y (s .ab)) 9 (WordAlu Addw Y (s .ab))) (WordAlu Addw Y (s .ab)) refl (s .op) (c .match .rest)))

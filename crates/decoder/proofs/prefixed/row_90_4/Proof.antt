@@ -3,7 +3,6 @@ use mathlib.Core.Path.{refl}
 use Rattle.stm8.specs.OpcodeMap.{one}
 use Rattle.stm8.specs.declared.Register.the-variants.{Y}
 use Rattle.stm8.specs.declared.Instruction.the-variants.{Mul}
-use Rattle.decoder.specs.Parts.{inRow}
 use Rattle.decoder.proofs.Arms.{alone}
 use Rattle.decoder.proofs.prefixed.row_90_4.Statement.{statement}
 use Rattle.decoder.proofs.prefixed.row_90_4.Tie as tie

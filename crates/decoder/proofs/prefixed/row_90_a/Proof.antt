@@ -17,4 +17,7 @@ row-90-a-spec =
     tie.close
     (tie.spec
     (λ c. rw (c .match .keys1))
-    (λ c. let s = c .before .args in otherwise (3 ∷ []) (two 3 (WordAlu Cpw Y (s .ab)) 14 (LoadWord Y (ImmediateWord (s .ab)))) (LoadWord Y (ImmediateWord (s .ab))) refl (s .op) (c .match .rest)))
+    (λ c.
+    let s = c .before .args in
+    otherwise (3 ∷ []) (two 3 (WordAlu Cpw Y (s .ab)) 14 (LoadWord Y (ImmediateWord (s .ab)))) (LoadWord Y (ImmediateWord (s .ab))) refl (s .op)
+    (c .match .rest)))

@@ -16,4 +16,7 @@ row-90-c-spec =
     tie.close
     (tie.spec
     (λ c. rw (c .match .keys1))
-    (λ c. let s = c .before .args in otherwise (14 ∷ []) (two 14 (LoadWord Y (Long (s .ab))) 15 (StoreWord Y (Long (s .ab)))) (StoreWord Y (Long (s .ab))) refl (s .op) (c .match .rest)))
+    (λ c.
+    let s = c .before .args in
+    otherwise (14 ∷ []) (two 14 (LoadWord Y (Long (s .ab))) 15 (StoreWord Y (Long (s .ab)))) (StoreWord Y (Long (s .ab))) refl (s .op)
+    (c .match .rest)))

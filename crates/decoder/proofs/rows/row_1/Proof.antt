@@ -20,4 +20,7 @@ row-1-spec =
     (λ c. rw (c .match .keys4))
     (λ c. rw (c .match .keys5))
     (λ c. rw (c .match .keys6))
-    (λ c. let s = c .before .before .args in c .alu-of .ensures (Sp (s .a)) ∙ as-in (indexedRow (Sp (s .a))) (row1 (s .a) (s .ab)) (15 ∷ 14 ∷ 13 ∷ 12 ∷ 7 ∷ 6 ∷ []) refl (s .op) _ (c .before .match .rest)))
+    (λ c.
+    let s = c .before .before .args in
+    c .alu-of .ensures (Sp (s .a)) ∙ as-in (indexedRow (Sp (s .a))) (row1 (s .a) (s .ab)) (15 ∷ 14 ∷ 13 ∷ 12 ∷ 7 ∷ 6 ∷ []) refl (s .op) _
+    (c .before .match .rest)))

@@ -17,4 +17,7 @@ row-3-spec =
     (λ c. rw (c .match .keys1))
     (λ c. rw (c .match .keys2))
     (λ c. rw (c .match .keys3))
-    (λ c. let s = c .before .before .args in c .modify-of .ensures (Short (s .a)) ∙ as-in (modifyRow (Short (s .a)) Blank Blank Blank) (row3 (s .a) (s .ab) (s .bc)) (11 ∷ 5 ∷ 2 ∷ []) refl (s .op) _ (c .before .match .rest)))
+    (λ c.
+    let s = c .before .before .args in
+    c .modify-of .ensures (Short (s .a)) ∙ as-in (modifyRow (Short (s .a)) Blank Blank Blank) (row3 (s .a) (s .ab) (s .bc)) (11 ∷ 5 ∷ 2 ∷ [])
+    refl (s .op) _ (c .before .match .rest)))

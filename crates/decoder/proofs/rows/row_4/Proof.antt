@@ -17,4 +17,7 @@ row-4-spec =
     (λ c. rw (c .match .keys1))
     (λ c. rw (c .match .keys2))
     (λ c. rw (c .match .keys3))
-    (λ c. let s = c .before .before .args in c .modify-of .ensures Accumulator ∙ as-in (modifyRow Accumulator Blank Blank Blank) (row4 (s .a) (s .b)) (11 ∷ 5 ∷ 2 ∷ []) refl (s .op) _ (c .before .match .rest)))
+    (λ c.
+    let s = c .before .before .args in
+    c .modify-of .ensures Accumulator ∙ as-in (modifyRow Accumulator Blank Blank Blank) (row4 (s .a) (s .b)) (11 ∷ 5 ∷ 2 ∷ []) refl (s .op) _
+    (c .before .match .rest)))

@@ -18,4 +18,7 @@ row-5-spec =
     (λ c. rw (c .match .keys2))
     (λ c. rw (c .match .keys3))
     (λ c. rw (c .match .keys4))
-    (λ c. let s = c .before .before .args in c .register-row-5 .ensures ∙ as-in (registerRow5 X Blank Blank Blank Blank) (row5 (s .a) (s .ab) (s .cd)) (11 ∷ 5 ∷ 2 ∷ 1 ∷ []) refl (s .op) _ (c .before .match .rest)))
+    (λ c.
+    let s = c .before .before .args in
+    c .register-row-5 .ensures ∙ as-in (registerRow5 X Blank Blank Blank Blank) (row5 (s .a) (s .ab) (s .cd)) (11 ∷ 5 ∷ 2 ∷ 1 ∷ []) refl (s .op)
+    _ (c .before .match .rest)))

@@ -3,7 +3,6 @@ use mathlib.Core.Path.{refl}
 use Rattle.stm8.specs.OpcodeMap.{one}
 use Rattle.stm8.specs.declared.Operand.the-variants.{Sp}
 use Rattle.stm8.specs.declared.Instruction.the-variants.{Store}
-use Rattle.decoder.specs.Parts.{inRow}
 use Rattle.decoder.proofs.Arms.{alone}
 use Rattle.decoder.proofs.rows.row_6.Statement.{statement}
 use Rattle.decoder.proofs.rows.row_6.Tie as tie

@@ -4,7 +4,6 @@ use Rattle.stm8.specs.OpcodeMap.{one}
 use Rattle.stm8.specs.declared.Operand.the-variants.{Sp}
 use Rattle.stm8.specs.declared.AluOp.the-variants.{Ld}
 use Rattle.stm8.specs.declared.Instruction.the-variants.{Alu}
-use Rattle.decoder.specs.Parts.{inRow}
 use Rattle.decoder.proofs.Arms.{alone}
 use Rattle.decoder.proofs.rows.row_7.Statement.{statement}
 use Rattle.decoder.proofs.rows.row_7.Tie as tie

@@ -18,4 +18,7 @@ row-8-spec =
     (λ c. rw (c .match .keys2))
     (λ c. rw (c .match .keys3))
     (λ c. rw (c .match .keys4))
-    (λ c. let s = c .before .before .args in c .register-row-8 .ensures ∙ as-in (registerRow8 X Blank Blank Blank Blank) row8 (12 ∷ 8 ∷ 4 ∷ 1 ∷ []) refl (s .op) _ (c .before .match .rest)))
+    (λ c.
+    let s = c .before .before .args in
+    c .register-row-8 .ensures ∙ as-in (registerRow8 X Blank Blank Blank Blank) row8 (12 ∷ 8 ∷ 4 ∷ 1 ∷ []) refl (s .op) _
+    (c .before .match .rest)))

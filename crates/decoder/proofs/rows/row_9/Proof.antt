@@ -18,4 +18,7 @@ row-9-spec =
     (λ c. rw (c .match .keys2))
     (λ c. rw (c .match .keys3))
     (λ c. rw (c .match .keys4))
-    (λ c. let s = c .before .before .args in c .register-row-9 .ensures ∙ as-in (registerRow9 X Blank Blank Blank Blank) row9 (13 ∷ 12 ∷ 9 ∷ 8 ∷ []) refl (s .op) _ (c .before .match .rest)))
+    (λ c.
+    let s = c .before .before .args in
+    c .register-row-9 .ensures ∙ as-in (registerRow9 X Blank Blank Blank Blank) row9 (13 ∷ 12 ∷ 9 ∷ 8 ∷ []) refl (s .op) _
+    (c .before .match .rest)))

@@ -17,4 +17,7 @@ row-a-spec =
     (λ c. rw (c .match .keys1))
     (λ c. rw (c .match .keys2))
     (λ c. rw (c .match .keys3))
-    (λ c. let s = c .before .before .args in c .alu-of .ensures (Immediate (s .a)) ∙ as-in (indexedRow (Immediate (s .a))) (rowA (s .a) (s .ab)) (14 ∷ 13 ∷ 3 ∷ []) refl (s .op) _ (c .before .match .rest)))
+    (λ c.
+    let s = c .before .before .args in
+    c .alu-of .ensures (Immediate (s .a)) ∙ as-in (indexedRow (Immediate (s .a))) (rowA (s .a) (s .ab)) (14 ∷ 13 ∷ 3 ∷ []) refl (s .op) _
+    (c .before .match .rest)))

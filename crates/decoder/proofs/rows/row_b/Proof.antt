@@ -15,4 +15,6 @@ row-b-spec =
     (tie.spec
     (λ c κs. tt)
     (λ c. rw (c .match .keys1))
-    (λ c. let s = c .before .before .args in c .alu-of .ensures (Short (s .a)) ∙ as-in (indexedRow (Short (s .a))) (rowB (s .a)) (7 ∷ []) refl (s .op) _ (c .before .match .rest)))
+    (λ c.
+    let s = c .before .before .args in
+    c .alu-of .ensures (Short (s .a)) ∙ as-in (indexedRow (Short (s .a))) (rowB (s .a)) (7 ∷ []) refl (s .op) _ (c .before .match .rest)))

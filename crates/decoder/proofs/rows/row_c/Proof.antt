@@ -18,4 +18,7 @@ row-c-spec =
     (λ c. rw (c .match .keys2))
     (λ c. rw (c .match .keys3))
     (λ c. rw (c .match .keys4))
-    (λ c. let s = c .before .before .args in c .alu-of .ensures (Long (s .ab)) ∙ as-in (indexedRow (Long (s .ab))) (rowC (s .ab)) (15 ∷ 14 ∷ 13 ∷ 7 ∷ []) refl (s .op) _ (c .before .match .rest)))
+    (λ c.
+    let s = c .before .before .args in
+    c .alu-of .ensures (Long (s .ab)) ∙ as-in (indexedRow (Long (s .ab))) (rowC (s .ab)) (15 ∷ 14 ∷ 13 ∷ 7 ∷ []) refl (s .op) _
+    (c .before .match .rest)))

@@ -16,4 +16,6 @@ register-row-5-spec =
     (tie.spec
     (λ c. rw (c .match .keys1))
     (λ c. rw (c .match .keys2))
-    (λ c. let s = c .before .args in otherwise (12 ∷ 10 ∷ []) (registerRow5 (s .register) Blank Blank Blank Blank) (WordModify Clrw (s .register)) refl (s .op) (c .match .rest)))
+    (λ c.
+    let s = c .before .args in
+    otherwise (12 ∷ 10 ∷ []) (registerRow5 (s .register) Blank Blank Blank Blank) (WordModify Clrw (s .register)) refl (s .op) (c .match .rest)))

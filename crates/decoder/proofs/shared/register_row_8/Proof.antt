@@ -14,4 +14,6 @@ register-row-8-spec =
     tie.close
     (tie.spec
     (λ c. rw (c .match .keys1))
-    (λ c. let s = c .before .args in otherwise (5 ∷ []) (registerRow8 (s .register) Blank Blank Blank Blank) (Pushw (s .register)) refl (s .op) (c .match .rest)))
+    (λ c.
+    let s = c .before .args in
+    otherwise (5 ∷ []) (registerRow8 (s .register) Blank Blank Blank Blank) (Pushw (s .register)) refl (s .op) (c .match .rest)))

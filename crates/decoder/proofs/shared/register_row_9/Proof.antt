@@ -18,4 +18,7 @@ register-row-9-spec =
     (λ c. rw (c .match .keys2))
     (λ c. rw (c .match .keys3))
     (λ c. rw (c .match .keys4))
-    (λ c. let s = c .before .args in otherwise (14 ∷ 7 ∷ 5 ∷ 3 ∷ []) (registerRow9 (s .register) Blank Blank Blank Blank) (LoadHalf (s .register) Low) refl (s .op) (c .match .rest)))
+    (λ c.
+    let s = c .before .args in
+    otherwise (14 ∷ 7 ∷ 5 ∷ 3 ∷ []) (registerRow9 (s .register) Blank Blank Blank Blank) (LoadHalf (s .register) Low) refl (s .op)
+    (c .match .rest)))

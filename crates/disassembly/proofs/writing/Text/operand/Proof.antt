@@ -36,5 +36,19 @@ operand-spec =
     (λ c. rw (c .push-word .ensures, c .before .letter3 .ensures, c .before .before .before .x2 .given .1))
     (λ c. rw (c .push-byte2 .ensures, c .before .push .ensures, c .before .before .before .x3 .given .1))
     (λ c. rw (c .address .ensures, c .before .before .x4 .given .1))
-    (λ c. rw (c .push2 .ensures, c .before .push-register .ensures, c .before .before .push-offset .ensures, c .before .before .before .letter4 .ensures, c .before .before .before .before .before .x5 .given .1, wrote-append, wrote-append))
-    (λ c. rw (c .letter7 .ensures, c .before .letter6 .ensures, c .before .before .push-byte3 .ensures, c .before .before .before .letter5 .ensures, c .before .before .before .before .before .x6 .given .1)))
+    (λ c.
+    let c2 = c .before .before in
+    let c4 = c2 .before .before in
+    rw (
+      c .push2 .ensures,
+      c .before .push-register .ensures,
+      c2 .push-offset .ensures,
+      c2 .before .letter4 .ensures,
+      c4 .before .x5 .given .1,
+      wrote-append,
+      wrote-append,
+    ))
+    (λ c.
+    let c2 = c .before .before in
+    let c4 = c2 .before .before in
+    rw (c .push3 .ensures, c .before .stack-pointer .ensures, c2 .push-byte3 .ensures, c2 .before .letter5 .ensures, c4 .before .x6 .given .1)))

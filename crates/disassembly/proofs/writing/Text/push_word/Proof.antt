@@ -12,4 +12,12 @@ push-word-spec =
     (λ c κs. search needs)
     (λ c κs. search needs)
     (λ c κs. search needs)
-    (λ c. rw (c .push-digits2 .ensures, c .before .low .ensures, c .before .before .push-digits .ensures, c .before .before .before .high .ensures, c .before .before .before .before .push .ensures)))
+    (λ c.
+    let c2 = c .before .before in
+    rw (
+      c .push-digits2 .ensures,
+      c .before .low .ensures,
+      c2 .push-digits .ensures,
+      c2 .before .high .ensures,
+      c2 .before .before .push .ensures,
+    )))

@@ -1,11 +1,11 @@
--- `arithmetic::sums::carry` meets its contract: the limit is 2 to the power of n + 1.
+-- `arithmetic::sums::carry_out` meets its contract: the limit is 2 to the power of n + 1.
 use native.Mathlib.Omega.{arith}
 use borrow.Author.Needs.{needs}
 use Rattle.arithmetic.specs.Sums.{carryOut}
 use Rattle.arithmetic.proofs.BitLaws.{flag-le}
 use Rattle.arithmetic.proofs.SumLaws.{limit, limit-positive, below-limit}
-use Rattle.arithmetic.proofs.sums.carry.Statement.{statement}
-use Rattle.arithmetic.proofs.sums.carry.Tie as tie
+use Rattle.arithmetic.proofs.sums.carry_out.Statement.{statement}
+use Rattle.arithmetic.proofs.sums.carry_out.Tie as tie
 
 add-result : tie.Need-add-result
 add-result c = record { fits = omega (arith, below-limit (c .args .n) (c .pre) (c .args .a), below-limit (c .args .n) (c .pre) (c .args .m)) }
@@ -19,8 +19,8 @@ returns : tie.Need-returns
 unfolding carryOut
 returns c = rw (limit (c .before .args .n) (c .before .pre), c .flag .ensures)
 
-pub carry-spec : {M : Type 1} → statement M
-carry-spec =
+pub carry-out-spec : {M : Type 1} → statement M
+carry-out-spec =
     tie.close
     (tie.spec
     (λ c. search needs)
