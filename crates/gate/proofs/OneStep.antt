@@ -31,7 +31,7 @@ use Rattle.machine.specs.declared.StepAnswer.the-variants.{Made}
 use Rattle.machine.proofs.Stores.{word-stored, read-memory}
 use Rattle.acceptance.specs.Rules.{branches, always, Calls, absolute, near, before, behind, calling, reportedNeed}
 use Rattle.gate.specs.History.{Book, Point, steppedTo, takenOff, lastOf, fedFlow, owedFlow}
-use Rattle.gate.specs.Guarantee.{Untrapped, Met, Unchanged}
+use Rattle.gate.specs.Guarantee.{Untrapped, MeetsOwed, Unchanged}
 use Rattle.gate.proofs.Forms.{PushesOwn, Form}
 use Rattle.gate.proofs.CheckedCode.{CheckedAt, CheckedCode, AfterCall, calls-fall, resumes}
 use Rattle.gate.proofs.Frames.{Agree, Frames, Good, runs, ends, frames-agree}
@@ -43,10 +43,10 @@ pointLeft x book = record { state = record { registers = x .0 .registers; memory
 
 -- what a step leaves of the memory before it, where PC must be afterwards, and of the book
 pub record StepHolds (image : List ℕ) (limits : Limits) (At : ℕ → ℕ → ℕ → Type 0) (total : ℕ) (before : List ℕ)
-    (must : Option ℕ) (book : Book) (x : Result) : Type 0 where
+    (owed : Option ℕ) (book : Book) (x : Result) : Type 0 where
   pub untrapped : Untrapped (steppedTo (x .0 .answer))
   pub good : Good image limits At (pointLeft x book)
-  pub met : Met must (x .0 .registers .pc)
+  pub met : MeetsOwed owed (x .0 .registers .pc)
   pub kept : Unchanged limits total before (x .1)
 
 pub unchanged-none : (limits : Limits) (total : ℕ) (memory : List ℕ) → Unchanged limits total memory memory
@@ -185,9 +185,9 @@ module _ (image : List ℕ) (limits : Limits) (At : ℕ → ℕ → ℕ → Type
   next = baseOf image + (o + here .size)
 
   abbrev Acts : Computed → ℕ → Option ℕ → Book → Type 0
-  Acts c pc must book′ =
+  Acts c pc owed book′ =
       (effectTrap limits (regs .sp) next e ≡ 0)
-      × StepHolds image limits At (reportedNeed image need) memory must book′
+      × StepHolds image limits At (reportedNeed image need) memory owed book′
       (result Made (record { a = c .a; x = c .x; y = c .y; cc = c .cc; sp = spAfter (regs .sp) e; pc = pc })
       (memoryAfter memory (regs .sp) e (c .stored) (e .place)))
 
