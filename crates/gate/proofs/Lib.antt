@@ -1,4 +1,3 @@
-pub mod Forms
 pub mod CheckedCode
 pub mod Frames
 pub mod Moves

@@ -140,7 +140,7 @@ intoOperand regs (Long a) r = storing regs (r .value) (r .cc)
 intoOperand regs (Indexed q f) r = storing regs (r .value) (r .cc)
 intoOperand regs (Sp f) r = storing regs (r .value) (r .cc)
 
--- loads between registers touch no flag
+-- XL and XH, YL and YH: the halves of an index register
 abbrev pub halfOf : Half → ℕ → ℕ
 halfOf Low w = low w
 halfOf High w = high w
@@ -156,7 +156,8 @@ otherOf Y = X
 abbrev pub exchanged : Registers → Computed
 exchanged regs = record { a = regs .a; x = regs .y; y = regs .x; cc = regs .cc; stored = 0; taken = false }
 
--- an instruction, with the address after it; POP and POPW read above SP, and a call stores the address after it, 16 bits
+-- an instruction, with the address after it; loads between registers touch no flag, POP and POPW read above SP, and a call stores the address
+-- after it, 16 bits
 unfoldable pub computed : List ℕ → List ℕ → Registers → ℕ → Instruction → Computed
 computed image memory regs next (I.Alu o x) = withA regs (aluResult o (regs .a) (byteOf image memory regs x) (regs .cc))
 computed image memory regs next (I.Store x) = storing regs (regs .a) (LD (regs .a) (regs .cc) .cc)
