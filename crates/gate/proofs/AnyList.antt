@@ -18,7 +18,8 @@ use Rattle.machine.specs.declared.StepAnswer.the-variants as Step
 use Rattle.machine.specs.declared.RunAnswer.the-variants.{Finished, Spent, Refused}
 use Rattle.machine.specs.declared.Ran.{Ran}
 use Rattle.acceptance.specs.Rules.{reportedNeed}
-use Rattle.gate.specs.History.{Given, Request, step, run, Point, Moment, Answer, started, steppedTo, ranTo, pointAfter, momentAfter, stepsFrom, afterSteps, pointOf, momentsOf, historyFrom, history}
+use Rattle.gate.specs.History.{Given, Request, step, run, Point, Answer, started, steppedTo, ranTo, Moment, pointAfter, momentAfter}
+use Rattle.gate.specs.History.{stepsFrom, afterSteps, pointOf, momentsOf, historyFrom, history}
 use Rattle.gate.specs.Guarantee.{All, Untrapped, MeetsOwed, Unchanged, Holds, Allowed}
 use Rattle.gate.proofs.CheckedCode.{CheckedCode}
 use Rattle.gate.proofs.Frames.{Good, runs, ends}
@@ -41,7 +42,7 @@ module _ (image : List ℕ) (limits : Limits) (At : ℕ → ℕ → ℕ → Type
   abbrev Claim : Moment → Type 0
   Claim = Holds image limits (reportedNeed image need) before
 
-  -- is what the claim asks for
+  -- at such a point the claim holds
   pub holds : (answer : Answer) (owed : Option ℕ) (p : Point) → Tracked p → Untrapped answer → MeetsOwed owed (p .state .registers .pc) →
       Claim (record { answer = answer; owed = owed; point = p })
   holds answer owed p t untrapped met = go (t .good)
