@@ -43,7 +43,7 @@ module _ (image : List ℕ) (limits : Limits) (At : ℕ → ℕ → ℕ → Type
   Claim = Holds image limits (reportedNeed image need) before
 
   -- at such a point the claim holds
-  pub holds : (answer : Answer) (owed : Option ℕ) (p : Point) → Tracked p → Untrapped answer → MeetsOwed owed (p .state .registers .pc) →
+  holds : (answer : Answer) (owed : Option ℕ) (p : Point) → Tracked p → Untrapped answer → MeetsOwed owed (p .state .registers .pc) →
       Claim (record { answer = answer; owed = owed; point = p })
   holds answer owed p t untrapped met = go (t .good)
     where

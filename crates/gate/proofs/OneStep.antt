@@ -9,7 +9,7 @@ use native.Mathlib.Omega.{arith}
 use lib.ListN.{length}
 use borrow.Author.Tests.{lt-ltb}
 use Rattle.numbers.specs.Folds.{firstIn}
-use Rattle.numbers.specs.Words.{high, low, wordAt}
+use Rattle.numbers.specs.Words.{wordAt}
 use Rattle.numbers.proofs.Checking.{under-pass, unless-pass}
 use Rattle.numbers.proofs.Folding.{_&_}
 use Rattle.stm8.specs.Effects.{relative, effect}

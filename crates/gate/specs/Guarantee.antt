@@ -54,7 +54,8 @@ pub record InTop (stack : Area) (n address : ℕ) : Type 0 where
 -- outside the grant and the top n bytes of the stack area every byte is what it was before
 pub record Unchanged (limits : Limits) (n : ℕ) (before after : List ℕ) : Type 0 where
   pub size : length after ≡ length before
-  pub same : (address : ℕ) → (Within (limits .grant) address → ⊥) → (InTop (limits .stack) n address → ⊥) → getD after address 0 ≡ getD before address 0
+  pub same : (address : ℕ) → (Within (limits .grant) address → ⊥) → (InTop (limits .stack) n address → ⊥) →
+      getD after address 0 ≡ getD before address 0
 
 -- what the guarantee promises of a state, a sentence each
 pub record Holds (image : List ℕ) (limits : Limits) (need : ℕ) (before : List ℕ) (m : Moment) : Type 0 where

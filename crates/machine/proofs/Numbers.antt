@@ -69,11 +69,11 @@ StepUnrefused (Trap number) = (21 ≤ number) × (number ≤ 25)
 StepUnrefused (Refused number) = ⊥
 
 step-numbered : (refused : ℕ) → refused ≡ 0 → (answer : StepAnswer) → StepUnrefused answer → StepNumbered refused answer
-step-numbered refused zero-is Made h = record { refusal = λ some. absurd (some zero-is); trap = λ e some. absurd (some refl); none = λ e. inl refl }
-step-numbered refused zero-is Finished h = record { refusal = λ some. absurd (some zero-is); trap = λ e some. absurd (some refl); none = λ e. inr refl }
-step-numbered refused zero-is (Trap number) h =
-    record { refusal = λ some. absurd (some zero-is); trap = λ e some. h; none = λ e. let z : ⊥ = omega (arith, h .0) in absurd z }
-step-numbered refused zero-is (Refused number) h = absurd h
+step-numbered refused valid Made h = record { refusal = λ some. absurd (some valid); trap = λ e some. absurd (some refl); none = λ e. inl refl }
+step-numbered refused valid Finished h = record { refusal = λ some. absurd (some valid); trap = λ e some. absurd (some refl); none = λ e. inr refl }
+step-numbered refused valid (Trap number) h =
+    record { refusal = λ some. absurd (some valid); trap = λ e some. h; none = λ e. let z : ⊥ = omega (arith, h .0) in absurd z }
+step-numbered refused valid (Refused number) h = absurd h
 
 module _ (image : List ℕ) (limits : Limits) (regs : Registers) (memory : List ℕ) where
   abbrev Unrefused : Result → Type 0
@@ -118,11 +118,11 @@ RunUnrefused (Run.Trap number) = (21 ≤ number) × (number ≤ 25)
 RunUnrefused (Run.Refused number) = ⊥
 
 run-numbered : (refused : ℕ) → refused ≡ 0 → (answer : RunAnswer) → RunUnrefused answer → RunNumbered refused answer
-run-numbered refused zero-is Run.Finished h = record { refusal = λ some. absurd (some zero-is); trap = λ e some. absurd (some refl); none = λ e. inl refl }
-run-numbered refused zero-is Run.Spent h = record { refusal = λ some. absurd (some zero-is); trap = λ e some. absurd (some refl); none = λ e. inr refl }
-run-numbered refused zero-is (Run.Trap number) h =
-    record { refusal = λ some. absurd (some zero-is); trap = λ e some. h; none = λ e. let z : ⊥ = omega (arith, h .0) in absurd z }
-run-numbered refused zero-is (Run.Refused number) h = absurd h
+run-numbered refused valid Run.Finished h = record { refusal = λ some. absurd (some valid); trap = λ e some. absurd (some refl); none = λ e. inl refl }
+run-numbered refused valid Run.Spent h = record { refusal = λ some. absurd (some valid); trap = λ e some. absurd (some refl); none = λ e. inr refl }
+run-numbered refused valid (Run.Trap number) h =
+    record { refusal = λ some. absurd (some valid); trap = λ e some. h; none = λ e. let z : ⊥ = omega (arith, h .0) in absurd z }
+run-numbered refused valid (Run.Refused number) h = absurd h
 
 module _ (image : List ℕ) (limits : Limits) where
   after-step : (regs : Registers) (memory : List ℕ) (answer : StepAnswer) → StepUnrefused answer → (rest : Ran × List ℕ) →

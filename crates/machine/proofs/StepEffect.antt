@@ -139,15 +139,15 @@ not-made-refused n h = let z : _≡_ {A = ℕ} 0 1 = cc in omega arith
 
 module _ (image : List ℕ) (limits : Limits) (regs : Registers) (memory : List ℕ) where
   -- a step that changes nothing
-  pub record Kept (after : Result) : Type 0 where
-    pub answer : after .0 .answer ≡ Made → ⊥
-    pub finished : after .0 .answer ≡ Finished → regs .pc ≡ 0
-    pub is : after ≡ result (after .0 .answer) regs memory
+  record Kept (after : Result) : Type 0 where
+    answer : after .0 .answer ≡ Made → ⊥
+    finished : after .0 .answer ≡ Finished → regs .pc ≡ 0
+    is : after ≡ result (after .0 .answer) regs memory
 
   -- a step that is made
-  pub record MadeByEffect (after : Result) : Type 0 where
-    pub answer : after .0 .answer ≡ Made
-    pub step : MadeStep image regs memory (after .0 .registers) (after .1)
+  record MadeByEffect (after : Result) : Type 0 where
+    answer : after .0 .answer ≡ Made
+    step : MadeStep image regs memory (after .0 .registers) (after .1)
 
   abbrev Way : Result → Type 0
   Way after = Kept after ⊎ MadeByEffect after

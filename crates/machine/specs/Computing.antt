@@ -174,7 +174,9 @@ computed image memory regs next (I.Popw r) = withIndex regs r (record { value = 
 computed image memory regs next I.Exgw = exchanged regs
 computed image memory regs next (I.Mul r) = withIndex regs r (MUL (indexOf regs r) (regs .a) (regs .cc))
 computed image memory regs next (I.Bit o n a) = storing regs (bitResult o n (readByte image memory a) (regs .cc)) (regs .cc)
-computed image memory regs next (I.BitJump o n a j) = testing regs (bitHolds o (isSet n (readByte image memory a))) (BTJ n (readByte image memory a) (regs .cc))
+computed image memory regs next (I.BitJump o n a j) =
+    let m = readByte image memory a in
+    testing regs (bitHolds o (isSet n m)) (BTJ n m (regs .cc))
 computed image memory regs next (I.Mov to from) = storing regs (byteOf image memory regs from) (regs .cc)
 computed image memory regs next (I.Push x) = storing regs (byteOf image memory regs x) (regs .cc)
 computed image memory regs next (I.Pop x) = intoOperand regs x (record { value = readByte image memory (regs .sp + 1); cc = regs .cc })
