@@ -34,7 +34,8 @@ made-requires c κs =
     let start = c4 .before .before .before .before .before in
     let a = start .args in
     let e = c4 .before .effect-of .result in
-    let none = sym (c4 .effect-trap .ensures) ∙ c .before .before .before .if1 .left in
+    let none : effectTrap (a .limits) (a .self .sp) (a .self .pc + a .n) e ≡ 0 =
+    sym (c4 .effect-trap .ensures) ∙ c .before .before .before .if1 .left in
     (omega (arith, pops-fit (a .limits) (a .self .sp) (a .self .pc + a .n) e none, start .good .1 .1 .0), start .pre)
 
 returns-2 : tie.Need-returns-2
