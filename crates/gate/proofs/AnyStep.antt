@@ -58,7 +58,7 @@ module _ (image : List ℕ) (limits : Limits) (regs : Registers) (memory : List 
       unfolding fedTo
       made-fed = rw (valid, ne-eqb (regs .pc) 0 on, inside, found)
 
-      -- and that it is made
+      -- nothing stops the last, so it is made
       step-makes : spTrap limits (regs .sp) ≡ 0 → effectTrap limits (regs .sp) (regs .pc + n) (effect i) ≡ 0 →
           stepped image limits regs memory ≡ made image regs memory (regs .pc + n) i
       step-makes sp passes =

@@ -1,4 +1,4 @@
--- No state is left out of a history: each call has as many as it must, and those of a run are what its steps leave, one after the other.
+-- No state is left out of a history: each call has as many as it must, and those of a run are what its steps leave, one after the other, to its end.
 use Prim.Native.Nat.{ℕ, zero, suc, _+_, _<_}
 use mathlib.Core.Path.{_≡_, refl, ap}
 use mathlib.Core.Bool.{Bool, true, false, cond}
@@ -37,13 +37,14 @@ list-states (c ∷ calls) p =
 pub every-state : (calls : List Request) (p : Point) → length (history calls p) ≡ 1 + states calls p
 every-state calls p = omega (arith, list-states calls p)
 
--- the state after step k of n is what a step leaves of the point that the k steps before it came to
-pub every-step : (g : Given) (n k : ℕ) (p : Point) → k < n → (default : Moment) → getD (stepsFrom g n p) k default ≡ momentAfter g (afterSteps g k p)
+-- state k of n steps, the first being 0, is what a step leaves of the point that k steps come to
+pub every-step : (g : Given) (n k : ℕ) (p : Point) → k < n → (default : Moment) →
+    getD (stepsFrom g n p) k default ≡ momentAfter g (afterSteps g k p)
 every-step g zero k p h default = let z : ⊥ = omega arith in absurd z
 every-step g (suc n) zero p h default = refl
 every-step g (suc n) (suc k) p h default = every-step g n k _ (omega arith) default
 
--- and a run's own end is the point that its steps came to
+-- and a run ends at the point that its steps come to
 module _ (g : Given) where
   abbrev Came : Point → Ran × List ℕ → Type 0
   Came p r = _≡_ {A = State} (record { registers = r .0 .registers; memory = r .1 }) (afterSteps g (r .0 .steps) p .state)

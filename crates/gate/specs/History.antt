@@ -171,7 +171,7 @@ historyFrom (c ∷ calls) p = momentsOf c p ++ historyFrom calls (pointOf c p)
 abbrev pub history : List Request → Point → List Moment
 history calls p = record { answer = started; owed = none; point = p } ∷ historyFrom calls p
 
--- how many states that is: a step has one, a run one for each step that it makes and one for its end
+-- how many states a call has: a step one, a run one for each step that it makes and one for its end; and a list of calls, all that they have
 abbrev pub statesOf : Request → Point → ℕ
 statesOf (step g) p = 1
 statesOf (run g budget) p = ran budget (g .image) (g .limits) (p .state .registers) (p .state .memory) .0 .steps + 1
