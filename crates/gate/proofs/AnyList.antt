@@ -18,8 +18,9 @@ use Rattle.machine.specs.declared.StepAnswer.the-variants as Step
 use Rattle.machine.specs.declared.RunAnswer.the-variants.{Finished, Spent, Refused}
 use Rattle.machine.specs.declared.Ran.{Ran}
 use Rattle.acceptance.specs.Rules.{reportedNeed}
-use Rattle.gate.specs.History.{Given, Request, step, run, Point, Moment, Answer, started, steppedTo, ranTo, pointAfter, momentAfter, stepsFrom, bookAfter, pointOf, momentsOf, historyFrom, history}
-use Rattle.gate.specs.Guarantee.{All, Untrapped, Met, Unchanged, Holds, Allowed}
+use Rattle.gate.specs.History.{Given, Request, step, run, Point, Answer, started, steppedTo, ranTo, Moment, pointAfter, momentAfter}
+use Rattle.gate.specs.History.{stepsFrom, afterSteps, pointOf, momentsOf, historyFrom, history}
+use Rattle.gate.specs.Guarantee.{All, Untrapped, MeetsOwed, Unchanged, Holds, Allowed}
 use Rattle.gate.proofs.CheckedCode.{CheckedCode}
 use Rattle.gate.proofs.Frames.{Good, runs, ends}
 use Rattle.gate.proofs.AnyStep.{Steps, room-here, on-code, any-step}
@@ -41,12 +42,12 @@ module _ (image : List ℕ) (limits : Limits) (At : ℕ → ℕ → ℕ → Type
   abbrev Claim : Moment → Type 0
   Claim = Holds image limits (reportedNeed image need) before
 
-  -- is what the claim asks for
-  pub holds : (answer : Answer) (must : Option ℕ) (p : Point) → Tracked p → Untrapped answer → Met must (p .state .registers .pc) →
-      Claim (record { answer = answer; must = must; point = p })
-  holds answer must p t untrapped met = go (t .good)
+  -- at such a point the claim holds
+  holds : (answer : Answer) (owed : Option ℕ) (p : Point) → Tracked p → Untrapped answer → MeetsOwed owed (p .state .registers .pc) →
+      Claim (record { answer = answer; owed = owed; point = p })
+  holds answer owed p t untrapped met = go (t .good)
     where
-      go : Good image limits At p → Holds image limits (reportedNeed image need) before (record { answer = answer; must = must; point = p })
+      go : Good image limits At p → Holds image limits (reportedNeed image need) before (record { answer = answer; owed = owed; point = p })
       go (runs y) =
           let k = code .at (y .start) in
           let room = room-here image limits At need code y in
@@ -88,7 +89,7 @@ module _ (image : List ℕ) (limits : Limits) (At : ℕ → ℕ → ℕ → Type
     RunHolds p x =
         All Claim (stepsFrom g (x .0 .steps) p)
         × Untrapped (ranTo (x .0 .answer))
-        × Tracked (record { state = record { registers = x .0 .registers; memory = x .1 }; book = bookAfter g (x .0 .steps) p })
+        × Tracked (record { state = record { registers = x .0 .registers; memory = x .1 }; book = afterSteps g (x .0 .steps) p .book })
 
     stopped : (p : Point) → Tracked p → (number : ℕ) (refused finished : Bool) →
         RunHolds p

@@ -18,13 +18,12 @@ use Rattle.image.specs.Rules.{LimitsRules, ImageRules}
 use Rattle.image.specs.Validation.{refusal, validationNumber}
 use Rattle.image.proofs.Validity.{number, rules-valid}
 use Rattle.machine.specs.Computing.{computed}
-use Rattle.machine.specs.Step.{result, spTrap, pcTrap, effectTrap, made, decodedStep, stepValid, stepRefusal, stepped}
+use Rattle.machine.specs.Step.{spTrap, pcTrap, effectTrap, made, decodedStep, stepRefusal, stepped}
 use Rattle.machine.specs.declared.Registers.{Registers}
-use Rattle.machine.specs.declared.StepAnswer.the-variants.{Finished, Refused}
-use Rattle.acceptance.specs.Rules.{reportedNeed}
-use Rattle.acceptance.specs.Rules.{before as usedBefore}
-use Rattle.gate.specs.History.{Given, Point, nothing, flow, fedTo, fed, owed}
-use Rattle.gate.proofs.Forms.{effect-form}
+use Rattle.machine.proofs.StepLaws.{step-refused, step-valid, finished, decodes, makes}
+use Rattle.machine.proofs.EffectForms.{effect-form}
+use Rattle.acceptance.specs.Rules.{before as usedBefore, reportedNeed}
+use Rattle.gate.specs.History.{Given, Point, Fed, nothing, flow, fedTo, fed, owed}
 use Rattle.gate.proofs.CheckedCode.{CheckedCode}
 use Rattle.gate.proofs.Frames.{Runs, Good, runs, ends, frames-top, frames-room}
 use Rattle.gate.proofs.Moves.{Room}
@@ -39,38 +38,34 @@ step-refusal : (image : List ℕ) (limits : Limits) (memory : List ℕ) → leng
 unfolding stepRefusal
 step-refusal image limits memory size = rw (differ-pass (length memory) 32768 17 size) (first-pass (refusal image limits))
 
+-- what a step feeds to the book: one that is refused, one that is finished, and one that is made
 module _ (image : List ℕ) (limits : Limits) (regs : Registers) (memory : List ℕ) where
-  -- a refused step, and what it feeds to the book
-  module _ (refuses : 0 < stepRefusal image limits memory) where
-    refused-step : stepped image limits regs memory ≡ result (Refused (stepRefusal image limits memory)) regs memory
-    unfolding stepped
-    refused-step = rw (ne-eqb (stepRefusal image limits memory) 0 (λ e. omega arith))
+  abbrev feeds : Fed
+  feeds = fedTo (record { image = image; limits = limits }) (record { registers = regs; memory = memory })
 
-    refused-fed : fedTo (record { image = image; limits = limits }) (record { registers = regs; memory = memory }) ≡ nothing
-    unfolding fedTo
-    refused-fed = rw (ne-eqb (stepRefusal image limits memory) 0 (λ e. omega arith))
+  refused-fed : (stepRefusal image limits memory ≡ 0 → ⊥) → feeds ≡ nothing
+  unfolding fedTo
+  refused-fed refuses = rw (ne-eqb (stepRefusal image limits memory) 0 refuses)
 
   module _ (valid : stepRefusal image limits memory ≡ 0) where
-    -- a finished one
-    finished-step : regs .pc ≡ 0 → stepped image limits regs memory ≡ result Finished regs memory
-    unfolding stepped stepValid
-    finished-step e = rw (valid, eq-eqb (regs .pc) 0 e)
-
-    finished-fed : regs .pc ≡ 0 → fedTo (record { image = image; limits = limits }) (record { registers = regs; memory = memory }) ≡ nothing
+    finished-fed : regs .pc ≡ 0 → feeds ≡ nothing
     unfolding fedTo
     finished-fed e = rw (valid, eq-eqb (regs .pc) 0 e)
 
-    -- one that is made
     module _ (on : regs .pc ≡ 0 → ⊥) (inside : pcTrap image (regs .pc) ≡ 0) (i : Instruction) (n : ℕ)
         (found : decoded (drop (regs .pc - baseOf image) (codeOf image)) ≡ Found i n) where
-      made-step : spTrap limits (regs .sp) ≡ 0 → effectTrap limits (regs .sp) (regs .pc + n) (effect i) ≡ 0 →
-          stepped image limits regs memory ≡ made image regs memory (regs .pc + n) i
-      unfolding stepped stepValid decodedStep
-      made-step sp passes = rw (valid, ne-eqb (regs .pc) 0 on, sp, inside, first-pass, found, passes)
-
-      made-fed : fedTo (record { image = image; limits = limits }) (record { registers = regs; memory = memory }) ≡ flow (effect i .flow) (regs .pc + n)
+      made-fed : feeds ≡ flow (effect i .flow) (regs .pc + n)
       unfolding fedTo
       made-fed = rw (valid, ne-eqb (regs .pc) 0 on, inside, found)
+
+      -- nothing stops the last, so it is made
+      step-makes : spTrap limits (regs .sp) ≡ 0 → effectTrap limits (regs .sp) (regs .pc + n) (effect i) ≡ 0 →
+          stepped image limits regs memory ≡ made image regs memory (regs .pc + n) i
+      step-makes sp passes =
+          step-valid image limits regs memory valid ∙
+          decodes image limits regs memory (ne-eqb _ _ on) _ refl (eq-eqb _ _ (sp & inside)) ∙
+          ap (decodedStep image limits regs memory) found ∙
+          makes image limits regs memory i n _ refl (eq-eqb _ _ passes)
 
 module _ (image : List ℕ) (limits : Limits) (At : ℕ → ℕ → ℕ → Type 0) (need : ℕ → ℕ) (code : CheckedCode image limits At need) where
   -- where a routine stands, in numbers
@@ -89,7 +84,8 @@ module _ (image : List ℕ) (limits : Limits) (At : ℕ → ℕ → ℕ → Type
   -- what is to be shown of a step given g
   abbrev pub Steps : Given → Point → Type 0
   Steps g p =
-      StepHolds image limits At (reportedNeed image need) (p .state .memory) (owed (fedTo g (p .state)) (p .book)) (fed (fedTo g (p .state)) (p .book))
+      StepHolds image limits At (reportedNeed image need) (p .state .memory)
+      (owed (fedTo g (p .state)) (p .book)) (fed (fedTo g (p .state)) (p .book))
       (stepped (g .image) (g .limits) (p .state .registers) (p .state .memory))
 
   module _ (p : Point) (size : length (p .state .memory) ≡ 32768) where
@@ -118,7 +114,7 @@ module _ (image : List ℕ) (limits : Limits) (At : ℕ → ℕ → ℕ → Type
         (computed image memory regs (baseOf image + (y .o + k .size)) (k .instruction)) (effect (k .instruction) .flow) refl
         (effect-form image memory regs (baseOf image + (y .o + k .size)) (k .instruction)) in
         rw (
-          made-step image limits regs memory valid (on-code y) pc-in (k .instruction) (k .size) found sp-in (rw next (done .0)),
+          step-makes image limits regs memory valid (on-code y) pc-in (k .instruction) (k .size) found sp-in (rw next (done .0)),
           made-fed image limits regs memory valid (on-code y) pc-in (k .instruction) (k .size) found,
           next,
         )
@@ -129,7 +125,8 @@ module _ (image : List ℕ) (limits : Limits) (At : ℕ → ℕ → ℕ → Type
     good-step (ends y) =
         let regs = p .state .registers in
         let memory = p .state .memory in
-        rw (finished-step image limits regs memory valid (y .here), finished-fed image limits regs memory valid (y .here))
+        let at-end = step-valid image limits regs memory valid ∙ finished image limits regs memory (eq-eqb _ _ (y .here)) in
+        rw (at-end, finished-fed image limits regs memory valid (y .here))
         record { untrapped = tt; good = ends y; met = tt; kept = unchanged-none limits (reportedNeed image need) memory }
 
     -- the accepted image and limits, or some that are refused
@@ -138,6 +135,6 @@ module _ (image : List ℕ) (limits : Limits) (At : ℕ → ℕ → ℕ → Type
     any-step g (inr above) good =
         let regs = p .state .registers in
         let memory = p .state .memory in
-        let refuses : 0 < stepRefusal (g .image) (g .limits) memory = rw (step-refusal (g .image) (g .limits) memory size) above in
-        rw (refused-step (g .image) (g .limits) regs memory refuses, refused-fed (g .image) (g .limits) regs memory refuses)
+        let refuses : stepRefusal (g .image) (g .limits) memory ≡ 0 → ⊥ = λ e. omega (arith, step-refusal (g .image) (g .limits) memory size) in
+        rw (step-refused (g .image) (g .limits) regs memory _ refl refuses, refused-fed (g .image) (g .limits) regs memory refuses)
         record { untrapped = tt; good = good; met = tt; kept = unchanged-none limits (reportedNeed image need) memory }

@@ -32,7 +32,9 @@ module _ (image : List ℕ) (bytes : Bytes image) (limits : Limits) (depth need 
         size = here .size;
         found = found-in-code image r (bytes-dropped (codeAt image) image bytes) o (here .found);
         rules = rw deep at (rules-map {At′ = ListedAt image depth r} (λ to d there. (at .0, there)) (here .rules));
-        covered = λ u. rules .needs r (at .0) .bounds (record { offset = o; instruction = here .instruction; size = here .size; start = start; found = here .found; used = rw deep u });
+        covered = λ u.
+            rules .needs r (at .0) .bounds
+            (record { offset = o; instruction = here .instruction; size = here .size; start = start; found = here .found; used = rw deep u });
       }
 
   pub rules-checked : CheckedCode image limits (ListedAt image depth) need

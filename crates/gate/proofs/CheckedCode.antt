@@ -74,11 +74,13 @@ module _ (image : List ℕ) (limits : Limits) (At : ℕ → ℕ → ℕ → Type
   resumes {r} {c} {d} h =
       let k = code .at (h .start) in
       let same = same-found (h .found) (k .found) in
-      let calls : Calls (baseOf image + (h .offset + k .size)) (effect (k .instruction) .flow) (baseOf image + startOf image r) = rw (same .0, same .1) at (h .calls) in
+      let calls : Calls (baseOf image + (h .offset + k .size)) (effect (k .instruction) .flow) (baseOf image + startOf image r) =
+      rw (same .0, same .1) at (h .calls) in
       let callee = k .rules .call calls in
       let earlier = callee .1 .earlier in
       let inside = k .listed in
-      let who : callee .0 ≡ r = one-routine image (code .layout) (callee .0) r (omega arith) (omega (arith, h .listed)) (omega (arith, callee .1 .target)) in
+      let who : callee .0 ≡ r =
+      one-routine image (code .layout) (callee .0) r (omega arith) (omega (arith, h .listed)) (omega (arith, callee .1 .target)) in
       record {
         to = h .offset + k .size;
         here = rw (same .1) at (h .here);

@@ -16,7 +16,7 @@ use Rattle.gate.proofs.CheckedCode.{CheckedCode, AfterCall, resumes}
 abbrev pub Agree : Limits → ℕ → List ℕ → List ℕ → Type 0
 Agree limits f before after = (address : ℕ) → f < address → address ≤ limits .stack .high → getD after address 0 ≡ getD before address 0
 
-pub word-agrees : (before after : List ℕ) (at : ℕ) → getD after at 0 ≡ getD before at 0 → getD after (at + 1) 0 ≡ getD before (at + 1) 0 →
+word-agrees : (before after : List ℕ) (at : ℕ) → getD after at 0 ≡ getD before at 0 → getD after (at + 1) 0 ≡ getD before (at + 1) 0 →
     wordAt after at ≡ wordAt before at
 unfolding wordAt
 word-agrees before after at p q = rw (p, q)

@@ -1,4 +1,4 @@
-pub mod Forms
+pub mod EveryState
 pub mod CheckedCode
 pub mod Frames
 pub mod Moves
@@ -10,4 +10,3 @@ pub mod Starting
 pub mod MainPlace
 pub mod Guarantee
 pub mod Sample
-pub mod EveryState

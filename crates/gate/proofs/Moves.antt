@@ -1,4 +1,4 @@
--- What an instruction moves and stores where a routine stands: no trap stops it, and it writes to the grant and to the routine's own stack bytes alone.
+-- What an instruction moves and stores where a routine stands: no trap stops it, and it writes to the grant and the routine's own stack bytes alone.
 use Prim.Native.Nat.{ℕ, _+_, _≤_, _<_}
 use mathlib.Core.Path.{_≡_, refl}
 use mathlib.Core.List.{List}
@@ -16,9 +16,9 @@ use Rattle.image.specs.Rules.{Within, LimitsRules}
 use Rattle.image.proofs.Granting.{ends-granted}
 use Rattle.machine.specs.Step.{moveTrap, storeTrap, spAfter, bytesOfWidth, memoryAfter}
 use Rattle.machine.proofs.Stores.{sets-other, bytes-length, size-kept}
+use Rattle.machine.proofs.EffectForms.{PushesOwn}
 use Rattle.acceptance.specs.Rules.{StoreRules}
 use Rattle.gate.specs.Guarantee.{Unchanged}
-use Rattle.gate.proofs.Forms.{PushesOwn}
 use Rattle.gate.proofs.Frames.{Agree}
 
 -- where a routine of a need stands, in numbers: at SP and depth d its frame and return address are there, and what it may still use is

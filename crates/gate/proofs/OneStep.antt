@@ -1,22 +1,20 @@
--- One step of an instruction where a routine runs: no trap stops it, it leaves a good point, a return goes where it must, and nothing is written that may
--- not be. What the instruction computes does not matter.
-use Prim.Native.Nat.{ℕ, _+_, _-_, _%_, _≤_, _<_}
+-- One step of an instruction where a routine runs: no trap stops it, it leaves a good point, a return goes where it must, and nothing is written
+-- that may not be. What the instruction computes does not matter.
+use Prim.Native.Nat.{ℕ, _+_, _-_, _≤_, _<_}
 use mathlib.Core.Path.{_≡_, refl, _∙_}
 use mathlib.Core.Bool.{Bool, true, false, cond}
 use mathlib.Core.Option.{Option, none, some}
 use mathlib.Core.List.{List, [], _∷_}
 use native.Mathlib.Omega.{arith}
 use lib.ListN.{length}
-use lib.Seq.{sets}
 use borrow.Author.Tests.{lt-ltb}
 use Rattle.numbers.specs.Folds.{firstIn}
-use Rattle.numbers.specs.Words.{high, low, wordAt}
+use Rattle.numbers.specs.Words.{wordAt}
 use Rattle.numbers.proofs.Checking.{under-pass, unless-pass}
 use Rattle.numbers.proofs.Folding.{_&_}
 use Rattle.stm8.specs.Effects.{relative, effect}
-use Rattle.stm8.specs.declared.Width.the-variants.{Word}
 use Rattle.stm8.specs.declared.Place.{Place}
-use Rattle.stm8.specs.declared.Place.the-variants.{Nowhere, Pushed}
+use Rattle.stm8.specs.declared.Place.the-variants.{Nowhere}
 use Rattle.stm8.specs.declared.Flow.{Flow}
 use Rattle.stm8.specs.declared.Flow.the-variants.{Next, Branch, Jump, Call, CallRelative, Return}
 use Rattle.stm8.specs.declared.Effect.{Effect}
@@ -24,15 +22,15 @@ use Rattle.image.specs.declared.Limits.{Limits}
 use Rattle.image.specs.Image.{baseOf, startOf}
 use Rattle.checker.specs.Depth.{movesDepth, popped, pushed, after}
 use Rattle.machine.specs.Reading.{readWord}
-use Rattle.machine.specs.Step.{Result, result, moveTrap, callTrap, calls, effectTrap, spAfter, pcAfter, memoryAfter}
+use Rattle.machine.specs.Step.{Result, result, moveTrap, isCall, callTrap, effectTrap, spAfter, pcAfter, memoryAfter}
 use Rattle.machine.specs.declared.Registers.{Registers}
 use Rattle.machine.specs.declared.Computed.{Computed}
 use Rattle.machine.specs.declared.StepAnswer.the-variants.{Made}
-use Rattle.machine.proofs.Stores.{word-stored, read-memory}
+use Rattle.machine.proofs.Stores.{word-stored, pushed-word, read-memory}
+use Rattle.machine.proofs.EffectForms.{PushesOwn, CallForm, Form}
 use Rattle.acceptance.specs.Rules.{branches, always, Calls, absolute, near, before, behind, calling, reportedNeed}
 use Rattle.gate.specs.History.{Book, Point, steppedTo, takenOff, lastOf, fedFlow, owedFlow}
-use Rattle.gate.specs.Guarantee.{Untrapped, Met, Unchanged}
-use Rattle.gate.proofs.Forms.{PushesOwn, Form}
+use Rattle.gate.specs.Guarantee.{Untrapped, MeetsOwed, Unchanged}
 use Rattle.gate.proofs.CheckedCode.{CheckedAt, CheckedCode, AfterCall, calls-fall, resumes}
 use Rattle.gate.proofs.Frames.{Agree, Frames, Good, runs, ends, frames-agree}
 use Rattle.gate.proofs.Moves.{Room, store-passes, move-passes, agrees, unchanged}
@@ -41,21 +39,16 @@ use Rattle.gate.proofs.Moves.{Room, store-passes, move-passes, agrees, 
 abbrev pub pointLeft : Result → Book → Point
 pointLeft x book = record { state = record { registers = x .0 .registers; memory = x .1 }; book = book }
 
--- what a step leaves of the memory before it, where PC must be afterwards, and of the book
+-- what is to be shown of a step's result: by the memory before it, where PC must be if it was a RET, and the book after it
 pub record StepHolds (image : List ℕ) (limits : Limits) (At : ℕ → ℕ → ℕ → Type 0) (total : ℕ) (before : List ℕ)
-    (must : Option ℕ) (book : Book) (x : Result) : Type 0 where
+    (owed : Option ℕ) (book : Book) (x : Result) : Type 0 where
   pub untrapped : Untrapped (steppedTo (x .0 .answer))
   pub good : Good image limits At (pointLeft x book)
-  pub met : Met must (x .0 .registers .pc)
+  pub met : MeetsOwed owed (x .0 .registers .pc)
   pub kept : Unchanged limits total before (x .1)
 
 pub unchanged-none : (limits : Limits) (total : ℕ) (memory : List ℕ) → Unchanged limits total memory memory
 unchanged-none limits total memory = record { size = refl; same = λ address grant top. refl }
-
-pushed-word : (memory : List ℕ) (sp : ℕ) (e : Effect) (value : ℕ) (place : Place) → place ≡ Pushed Word →
-    memoryAfter memory sp e value place ≡ sets memory (spAfter sp e + 1) (high value ∷ low value ∷ [])
-unfolding memoryAfter
-pushed-word memory sp e value place p = rw p
 
 nothing-stored : (memory : List ℕ) (sp : ℕ) (e : Effect) (value : ℕ) (place : Place) → place ≡ Nowhere → memoryAfter memory sp e value place ≡ memory
 unfolding memoryAfter
@@ -67,13 +60,13 @@ after-moves e d t = (rw t, rw t)
 
 call-passes : (next : ℕ) (flow : Flow) → next < 0x10000 → callTrap next flow ≡ 0
 unfolding callTrap
-call-passes next flow below = rw (lt-ltb next 0x10000 below, unless-pass) (go (calls flow))
+call-passes next flow below = rw (lt-ltb next 0x10000 below, unless-pass) (go (isCall flow))
   where
     go : (t : Bool) → _≡_ {A = ℕ} (cond t 0 0) 0
     go true = refl
     go false = refl
 
-no-call : (next : ℕ) (flow : Flow) → calls flow ≡ false → callTrap next flow ≡ 0
+no-call : (next : ℕ) (flow : Flow) → isCall flow ≡ false → callTrap next flow ≡ 0
 unfolding callTrap
 no-call next flow t = rw t
 
@@ -106,7 +99,8 @@ module _ (image : List ℕ) (limits : Limits) (At : ℕ → ℕ → ℕ → Type
       At callee (startOf image callee) 0 → regs′ .pc ≡ baseOf image + startOf image callee → regs′ .sp + 2 ≡ regs .sp →
       wordAt memory′ (regs′ .sp + 1) ≡ address →
       Agree limits (regs .sp + d) memory memory′ → Unchanged limits total memory memory′ →
-      StepHolds image limits At total memory none (record { addresses = address ∷ book .addresses; returned = book .returned }) (result Made regs′ memory′)
+      StepHolds image limits At total memory none (record { addresses = address ∷ book .addresses; returned = book .returned })
+      (result Made regs′ memory′)
   enters regs′ memory′ callee address call start here same stored agree kept =
       let low : regs′ .sp + 0 + 1 ≡ regs′ .sp + 1 = omega arith in
       let up : regs′ .sp + 0 + 2 + d ≡ regs .sp + d = omega arith in
@@ -172,7 +166,7 @@ module _ (image : List ℕ) (limits : Limits) (At : ℕ → ℕ → ℕ → Type
 
 -- by the flow of the instruction
 module _ (image : List ℕ) (limits : Limits) (At : ℕ → ℕ → ℕ → Type 0) (need : ℕ → ℕ) (code : CheckedCode image limits At need)
-    (regs : Registers) (memory : List ℕ) (size : length memory ≡ 0x8000) (book : Book) (r o d : ℕ) (start : At r o d)
+    (regs : Registers) (memory : List ℕ) (size : length memory ≡ 32768) (book : Book) (r o d : ℕ) (start : At r o d)
     (frames : Frames image limits At (book .addresses) r (regs .sp + d) memory) (running : book .returned ≡ false)
     (room : Room limits (reportedNeed image need) (need r) (regs .sp) d) where
   abbrev here : CheckedAt image limits At need r o d
@@ -185,13 +179,13 @@ module _ (image : List ℕ) (limits : Limits) (At : ℕ → ℕ → ℕ → Type
   next = baseOf image + (o + here .size)
 
   abbrev Acts : Computed → ℕ → Option ℕ → Book → Type 0
-  Acts c pc must book′ =
+  Acts c pc owed book′ =
       (effectTrap limits (regs .sp) next e ≡ 0)
-      × StepHolds image limits At (reportedNeed image need) memory must book′
+      × StepHolds image limits At (reportedNeed image need) memory owed book′
       (result Made (record { a = c .a; x = c .x; y = c .y; cc = c .cc; sp = spAfter (regs .sp) e; pc = pc })
       (memoryAfter memory (regs .sp) e (c .stored) (e .place)))
 
-  plain : (c : Computed) → movesDepth (e .flow) ≡ true → calls (e .flow) ≡ false →
+  plain : (c : Computed) → movesDepth (e .flow) ≡ true → isCall (e .flow) ≡ false →
       PushesOwn (e .place) (e .pushes) →
       (pc to : ℕ) → pc ≡ baseOf image + to → At r to (after e d) → Acts c pc none book
   unfolding effectTrap firstIn
@@ -209,11 +203,14 @@ module _ (image : List ℕ) (limits : Limits) (At : ℕ → ℕ → ℕ → Type
             (unchanged limits (code .areas) _ _ _ _ room e pops fits (e .place) (c .stored) memory (here .rules .store) own),
       )
 
-  entering : (c : Computed) (address : ℕ) → Calls next (e .flow) address → e .pops ≡ 0 → e .pushes ≡ 2 →
-      e .place ≡ Pushed Word → c .stored ≡ next % 0x10000 →
+  entering : (c : Computed) (address : ℕ) → Calls next (e .flow) address → CallForm (e .pops) (e .pushes) (e .place) (c .stored) next →
       Acts c address none (record { addresses = next ∷ book .addresses; returned = book .returned })
   unfolding effectTrap firstIn
-  entering c address call no-pops two word-pushed stores =
+  entering c address call form =
+      let no-pops = form .0 in
+      let two = form .1 in
+      let word-pushed = form .2 in
+      let stores = form .3 in
       let callee = here .rules .call call in
       let earlier = callee .1 .earlier in
       let listed = here .listed in
@@ -246,13 +243,12 @@ module _ (image : List ℕ) (limits : Limits) (At : ℕ → ℕ → ℕ → Type
             (unchanged limits (code .areas) _ _ _ _ room e pops fits (e .place) (c .stored) memory (here .rules .store) own),
       )
 
-  returning : (c : Computed) → e .flow ≡ Return → e .pops ≡ 2 → e .pushes ≡ 0 →
-      e .place ≡ Nowhere →
+  returning : (c : Computed) → e .flow ≡ Return → e .pops ≡ 2 → e .pushes ≡ 0 → e .place ≡ Nowhere →
       Acts c (readWord image memory (regs .sp + 1)) (some (lastOf (book .addresses))) (takenOff (book .addresses) (book .returned))
   unfolding effectTrap firstIn moveTrap
   returning c return two no-pushes nowhere =
       let empty = here .rules .return-empty return in
-      let same : memoryAfter memory (regs .sp) e (c .stored) (e .place) ≡ memory = nothing-stored memory (regs .sp) e (c .stored) (e .place) nowhere in (
+      let same = nothing-stored memory (regs .sp) e (c .stored) (e .place) nowhere in (
         (under-pass _ _ 24 (omega (arith, room)) & under-pass _ _ 24 (omega (arith, room))) &
             store-passes limits (code .areas) _ _ _ _ room (e .place) (here .rules .store) & rw return (no-call next Return refl) & refl,
         rw same
@@ -278,6 +274,6 @@ module _ (image : List ℕ) (limits : Limits) (At : ℕ → ℕ → ℕ → Type
   acts c (Jump n) flow form =
       let jump = here .rules .jump {address = relative next n} (rw flow always) in
       plain c (rw flow) (rw flow) form _ (jump .to) (jump .target) (jump .lands)
-  acts c (Call a) flow form = entering c a (rw flow absolute) (form .0) (form .1) (form .2) (form .3)
-  acts c (CallRelative n) flow form = entering c (relative next n) (rw flow near) (form .0) (form .1) (form .2) (form .3)
+  acts c (Call a) flow form = entering c a (rw flow absolute) form
+  acts c (CallRelative n) flow form = entering c (relative next n) (rw flow near) form
   acts c Return flow form = returning c flow (form .0) (form .1) (form .2)

@@ -33,7 +33,8 @@ module _ (image : List ℕ) (limits : Limits) (marks memory : List ℕ) (a x y c
   -- by the size of the memory and the verdict
   abbrev answer : Bool → Verdict → Result
   answer t v =
-      cond t (byVerdict v image limits (checked image limits marks .1) memory a x y cc′) (byVerdict (Refused 17 0) image limits marks memory a x y cc′)
+      cond t (byVerdict v image limits (checked image limits marks .1) memory a x y cc′)
+      (byVerdict (Refused 17 0) image limits marks memory a x y cc′)
 
   by-verdict : (t : Bool) → eqb (length memory) 32768 ≡ t → (v : Verdict) → checked image limits marks .0 ≡ v →
       answer t v .started .verdict ≡ Accepted need count → AcceptedStart (answer t v)
@@ -90,7 +91,8 @@ module _ (image : List ℕ) (limits : Limits) (At : ℕ → ℕ → ℕ → Type
 -- the ways through a start
 module _ (image : List ℕ) (limits : Limits) (marks memory : List ℕ) (a x y cc′ : ℕ) where
   pub start-17 : (length memory ≡ 32768 → ⊥) →
-      started image limits marks memory a x y cc′ ≡ record { started = record { verdict = Refused 17 0; registers = zeros }; marks = marks; memory = memory }
+      started image limits marks memory a x y cc′ ≡
+      record { started = record { verdict = Refused 17 0; registers = zeros }; marks = marks; memory = memory }
   unfolding started
   start-17 h = rw (ne-eqb (length memory) 32768 h)
 
@@ -110,7 +112,8 @@ module _ (image : List ℕ) (limits : Limits) (marks memory : List ℕ) (a x y c
 
 -- what is accepted can begin
 pub start-ready : (image : List ℕ) (limits : Limits) (marks memory : List ℕ) (v : Verdict) (marks′ : List ℕ) (n c : ℕ) → length memory ≡ 32768 →
-    checked image limits marks ≡ (v, marks′) → v ≡ Accepted n c → ImageRules image × ((2 ≤ limits .stack .high) × (limits .stack .high < length memory))
+    checked image limits marks ≡ (v, marks′) → v ≡ Accepted n c →
+    ImageRules image × ((2 ≤ limits .stack .high) × (limits .stack .high < length memory))
 start-ready image limits marks memory v marks′ n c size check e =
     let h = accepted-exactly image limits marks n c .0 (ap (λ (r : Verdict × List ℕ). r .0) check ∙ e) in
     let areas = h .rules .areas in

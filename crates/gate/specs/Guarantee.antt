@@ -42,9 +42,9 @@ pub record AtStart (image : List ℕ) (pc : ℕ) : Type 0 where
   pub here : pc ≡ baseOf image + offset
 
 -- a return went to the address that it owed
-abbrev pub Met : Option ℕ → ℕ → Type 0
-Met none pc = Unit {0}
-Met (some address) pc = pc ≡ address
+abbrev pub MeetsOwed : Option ℕ → ℕ → Type 0
+MeetsOwed none pc = Unit {0}
+MeetsOwed (some address) pc = pc ≡ address
 
 -- The top n bytes of a stack area are the n that end at stack high.
 pub record InTop (stack : Area) (n address : ℕ) : Type 0 where
@@ -54,9 +54,10 @@ pub record InTop (stack : Area) (n address : ℕ) : Type 0 where
 -- outside the grant and the top n bytes of the stack area every byte is what it was before
 pub record Unchanged (limits : Limits) (n : ℕ) (before after : List ℕ) : Type 0 where
   pub size : length after ≡ length before
-  pub same : (address : ℕ) → (Within (limits .grant) address → ⊥) → (InTop (limits .stack) n address → ⊥) → getD after address 0 ≡ getD before address 0
+  pub same : (address : ℕ) → (Within (limits .grant) address → ⊥) → (InTop (limits .stack) n address → ⊥) →
+      getD after address 0 ≡ getD before address 0
 
--- what holds in a state: the mission's sentences, one each
+-- what the guarantee promises of a state, a sentence each
 pub record Holds (image : List ℕ) (limits : Limits) (need : ℕ) (before : List ℕ) (m : Moment) : Type 0 where
   -- No step or run has trapped.
   pub untrapped : Untrapped (m .answer)
@@ -66,7 +67,7 @@ pub record Holds (image : List ℕ) (limits : Limits) (need : ℕ) (before : Lis
   pub finished : m .point .state .registers .pc ≡ 0 → m .point .book .returned ≡ true
   pub only-then : m .point .book .returned ≡ true → m .point .state .registers .pc ≡ 0
   -- Each return went to the instruction after the call it belongs to; main's return finished the run.
-  pub returned : Met (m .must) (m .point .state .registers .pc)
+  pub returned : MeetsOwed (m .owed) (m .point .state .registers .pc)
   -- Outside its grant and the top bytes of its stack area, as many as the reported need, every byte of memory is what it was before the start.
   pub unchanged : Unchanged limits need before (m .point .state .memory)
   -- It never had more stack bytes in use than that need.

@@ -108,15 +108,16 @@ pub record Point : Type 0 where
 abbrev pub pointStarted : Result → Point
 pointStarted s = record { state = record { registers = s .started .registers; memory = s .memory }; book = emptyBook }
 
--- a state of the history: what the start, a step or a run answered, where PC must be if it was a RET, and the point that it left
+-- what the start, a step or a run answered
 pub data Answer : Type 0 where
   started : Answer
   steppedTo : StepAnswer → Answer
   ranTo : RunAnswer → Answer
 
+-- a state of the history: the answer, where PC must be if it was a RET, and the point that was left
 pub record Moment : Type 0 where
   pub answer : Answer
-  pub must : Option ℕ
+  pub owed : Option ℕ
   pub point : Point
 
 abbrev pub stateAfter : Given → State → State
@@ -131,24 +132,24 @@ abbrev pub momentAfter : Given → Point → Moment
 momentAfter g p =
     record {
       answer = steppedTo (stepped (g .image) (g .limits) (p .state .registers) (p .state .memory) .0 .answer);
-      must = owed (fedTo g (p .state)) (p .book);
+      owed = owed (fedTo g (p .state)) (p .book);
       point = pointAfter g p;
     }
 
--- n single steps, one by one
+-- n single steps, one by one: their states, and how far they come
 abbrev pub stepsFrom : Given → ℕ → Point → List Moment
 stepsFrom g zero p = []
 stepsFrom g (suc n) p = momentAfter g p ∷ stepsFrom g n (pointAfter g p)
 
-abbrev pub bookAfter : Given → ℕ → Point → Book
-bookAfter g zero p = p .book
-bookAfter g (suc n) p = bookAfter g n (pointAfter g p)
+abbrev pub afterSteps : Given → ℕ → Point → Point
+afterSteps g zero p = p
+afterSteps g (suc n) p = afterSteps g n (pointAfter g p)
 
 -- a run leaves what its definition says, and its book is that of the steps it makes
 abbrev pub ranPoint : Given → ℕ → Point → Point
 ranPoint g budget p =
     let r = ran budget (g .image) (g .limits) (p .state .registers) (p .state .memory) in
-    record { state = record { registers = r .0 .registers; memory = r .1 }; book = bookAfter g (r .0 .steps) p }
+    record { state = record { registers = r .0 .registers; memory = r .1 }; book = afterSteps g (r .0 .steps) p .book }
 
 abbrev pub pointOf : Request → Point → Point
 pointOf (step g) p = pointAfter g p
@@ -159,7 +160,7 @@ abbrev pub momentsOf : Request → Point → List Moment
 momentsOf (step g) p = momentAfter g p ∷ []
 momentsOf (run g budget) p =
     let r = ran budget (g .image) (g .limits) (p .state .registers) (p .state .memory) in
-    stepsFrom g (r .0 .steps) p ++ record { answer = ranTo (r .0 .answer); must = none; point = ranPoint g budget p } ∷ []
+    stepsFrom g (r .0 .steps) p ++ record { answer = ranTo (r .0 .answer); owed = none; point = ranPoint g budget p } ∷ []
 
 -- the history of a list, from a point
 abbrev pub historyFrom : List Request → Point → List Moment
@@ -168,4 +169,13 @@ historyFrom (c ∷ calls) p = momentsOf c p ++ historyFrom calls (pointOf c p)
 
 -- with the point itself as its first state
 abbrev pub history : List Request → Point → List Moment
-history calls p = record { answer = started; must = none; point = p } ∷ historyFrom calls p
+history calls p = record { answer = started; owed = none; point = p } ∷ historyFrom calls p
+
+-- how many states a call has: a step one, a run one for each step that it makes and one for its end; and a list of calls, all that they have
+abbrev pub statesOf : Request → Point → ℕ
+statesOf (step g) p = 1
+statesOf (run g budget) p = ran budget (g .image) (g .limits) (p .state .registers) (p .state .memory) .0 .steps + 1
+
+abbrev pub states : List Request → Point → ℕ
+states [] p = 0
+states (c ∷ calls) p = statesOf c p + states calls (pointOf c p)

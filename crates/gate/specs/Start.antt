@@ -35,7 +35,11 @@ abbrev pub byVerdict : Verdict → List ℕ → Limits → List ℕ → List ℕ
 byVerdict (Refused number offset) image limits marks memory a x y cc =
     record { started = record { verdict = Refused number offset; registers = zeros }; marks = marks; memory = memory }
 byVerdict (Accepted need count) image limits marks memory a x y cc =
-    record { started = record { verdict = Accepted need count; registers = begun image limits a x y cc }; marks = marks; memory = cleared limits memory }
+    record {
+      started = record { verdict = Accepted need count; registers = begun image limits a x y cc };
+      marks = marks;
+      memory = cleared limits memory;
+    }
 
 unfoldable pub started : List ℕ → Limits → List ℕ → List ℕ → ℕ → ℕ → ℕ → ℕ → Result
 started image limits marks memory a x y cc =

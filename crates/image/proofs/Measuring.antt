@@ -3,8 +3,8 @@ use Prim.Native.Nat.{ℕ, _+_, _*_, _-_, _<_, _≤_}
 use mathlib.Core.Path.{_≡_, refl, _∙_, ap}
 use mathlib.Core.List.{List, map}
 use native.Mathlib.Omega.{arith}
-use lib.ListN.{length, getD, List·getD-eq-default, List·getD-map, length-map, take, length-drop}
-use lib.Seq.{take-all, getD-drop}
+use lib.ListN.{length, List·getD-eq-default, List·getD-map, length-map, take, length-drop}
+use lib.Seq.{take-all}
 use Rattle.numbers.specs.Checks.{first}
 use Rattle.numbers.specs.Folds.{total, firstIn}
 use Rattle.numbers.specs.Words.{wordAt}
@@ -73,11 +73,6 @@ module _ (image : List ℕ) where
   pub lengths-all : lengthsBefore (countOf image) ≡ lengthsCheck image
   unfolding lengthsBefore lengthsCheck
   lengths-all = ap firstIn (take-all (countOf image) (map lengthCheck (lengthsOf image)) (omega (arith, lengths-count, length-map (lengthsOf image) lengthCheck)))
-
-  -- a code byte, by its offset
-  pub code-byte : (offset : ℕ) → getD (codeOf image) offset 0 ≡ getD image (codeAt image + offset) 0
-  unfolding codeOf
-  code-byte offset = getD-drop (codeAt image) image offset 0
 
   pub code-length : length (codeOf image) ≡ length image - codeAt image
   unfolding codeOf

@@ -1,7 +1,9 @@
 pub mod ReadLaws
 pub mod Stores
 pub mod StepLaws
+pub mod EffectForms
 pub mod StepEffect
 pub mod RunLaws
 pub mod OnlyStep
 pub mod RunEnds
+pub mod Numbers

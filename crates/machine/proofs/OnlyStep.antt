@@ -3,6 +3,7 @@ use Prim.Native.Nat.{ℕ}
 use mathlib.Core.Path.{_≡_, refl, ap, _∙_}
 use mathlib.Core.List.{List}
 use lib.Dec.{eqb}
+use Rattle.numbers.proofs.Checking.{by-test}
 use Rattle.image.specs.declared.Limits.{Limits}
 use Rattle.machine.specs.Step.{Result, result, stepRefusal, stepped}
 use Rattle.machine.specs.Run.{afterStep, noStepsLeft, ran, onlyStep}
@@ -11,7 +12,7 @@ use Rattle.machine.specs.declared.StepAnswer.{StepAnswer}
 use Rattle.machine.specs.declared.StepAnswer.the-variants.{Made, Finished, Trap, Refused}
 use Rattle.machine.specs.declared.Stepped.{Stepped}
 use Rattle.machine.specs.declared.Ran.{Ran}
-use Rattle.machine.proofs.StepEffect.{by-test, kept-step, not-made-finished, not-made-trap, not-made-refused}
+use Rattle.machine.proofs.StepEffect.{kept-step, not-made-finished, not-made-trap, not-made-refused}
 
 -- what a run with no steps left leaves
 record Left (regs : Registers) (cells : List ℕ) (r : Ran × List ℕ) : Type 0 where
@@ -42,7 +43,8 @@ module _ (image : List ℕ) (limits : Limits) where
       (λ t. record { steps = refl; registers = refl; memory = refl })
 
   run-of-one : (regs : Registers) (memory : List ℕ) →
-      ran 1 image limits regs memory ≡ afterStep (stepped image limits regs memory .0 .answer) regs memory (ran 0 image limits (stepped image limits regs memory .0 .registers) (stepped image limits regs memory .1))
+      let s = stepped image limits regs memory in
+      ran 1 image limits regs memory ≡ afterStep (s .0 .answer) regs memory (ran 0 image limits (s .0 .registers) (s .1))
   unfolding ran
   run-of-one regs memory = refl
 

@@ -5,6 +5,7 @@ use mathlib.Core.List.{List}
 use native.Mathlib.Numerals.{add-one}
 use lib.Dec.{eqb}
 use borrow.Author.Tests.{eqb-true, eqb-false}
+use Rattle.numbers.proofs.Checking.{by-test}
 use Rattle.image.specs.declared.Limits.{Limits}
 use Rattle.machine.specs.Step.{stepRefusal, stepped}
 use Rattle.machine.specs.Run.{ended, oneMore, afterStep, noStepsLeft, ran, Says, Told}
@@ -14,7 +15,7 @@ use Rattle.machine.specs.declared.StepAnswer.the-variants as Step
 use Rattle.machine.specs.declared.RunAnswer.{RunAnswer}
 use Rattle.machine.specs.declared.RunAnswer.the-variants.{Finished, Spent, Trap, Refused}
 use Rattle.machine.specs.declared.Ran.{Ran}
-use Rattle.machine.proofs.StepEffect.{by-test, finished-step}
+use Rattle.machine.proofs.StepEffect.{finished-step}
 
 -- one step more
 more : (budget : ℕ) (r : Ran × List ℕ) (answer : RunAnswer) → Says budget (r .0) answer → Says (suc budget) (oneMore r .0) answer

@@ -43,12 +43,12 @@ unfolding ran noStepsLeft
 refused-at-once zero image limits regs memory number h = rw (h .0, ne-eqb number 0 (h .1))
 refused-at-once (suc budget) image limits regs memory number h = rw (step-refused image limits regs memory number (h .0) (h .1))
 
-module _ (image : List ℕ) (limits : Limits) (k : ℕ) (regs : Registers) (memory : List ℕ) (accepted : stepRefusal image limits memory ≡ 0) where
+module _ (image : List ℕ) (limits : Limits) (k : ℕ) (regs : Registers) (memory : List ℕ) (valid : stepRefusal image limits memory ≡ 0) where
   -- no steps are left
   run-out : (left : ℕ) → left ≡ 0 →
       after k (ran left image limits regs memory) ≡ stopped (cond (eqb (regs .pc) 0) Finished Spent) regs k memory
   unfolding ran noStepsLeft
-  run-out left none = rw (none, accepted, zero-add)
+  run-out left none = rw (none, valid, zero-add)
 
   pub out-finished : (left : ℕ) → left ≡ 0 → regs .pc ≡ 0 → after k (ran left image limits regs memory) ≡ stopped Finished regs k memory
   out-finished left none at-zero = run-out left none ∙ rw (eq-eqb _ _ at-zero)
@@ -60,7 +60,7 @@ module _ (image : List ℕ) (limits : Limits) (k : ℕ) (regs : Registers) (memo
   module _ (left rest : ℕ) (one : left ≡ rest + 1) (s : Stepped) (memory′ : List ℕ) (is : stepValid image limits regs memory ≡ (s, memory′)) where
     one-step : ran left image limits regs memory ≡ afterStep (s .answer) regs memory (ran rest image limits (s .registers) memory′)
     unfolding ran
-    one-step = rw (one, add-one, step-valid image limits regs memory accepted, is)
+    one-step = rw (one, add-one, step-valid image limits regs memory valid, is)
 
     pub run-on : s .answer ≡ Step.Made →
         after k (ran left image limits regs memory) ≡ after (k + 1) (ran rest image limits (s .registers) memory′)
@@ -69,7 +69,7 @@ module _ (image : List ℕ) (limits : Limits) (k : ℕ) (regs : Registers) (memo
     unmade : (s .answer ≡ Step.Made → ⊥) → _≡_ {A = Result} (s, memory′) (result (s .answer) regs memory)
     unmade other =
         subst (λ (r : Result). (r .0 .answer ≡ Step.Made → ⊥) → r ≡ result (r .0 .answer) regs memory)
-        (step-valid image limits regs memory accepted ∙ is)
+        (step-valid image limits regs memory valid ∙ is)
         (kept-step image limits regs memory)
         other
 
@@ -88,7 +88,8 @@ module _ (image : List ℕ) (limits : Limits) (k : ℕ) (regs : Registers) (memo
     pub run-trapped : (n : ℕ) → s .answer ≡ Step.Trap n → after k (ran left image limits regs memory) ≡ stopped (Trap n) (s .registers) k memory′
     run-trapped n e = stops (Trap n) (λ m. not-made-trap n (sym e ∙ m)) (rw e)
 
-    pub run-refused : (n : ℕ) → s .answer ≡ Step.Refused n → after k (ran left image limits regs memory) ≡ stopped (Refused n) (s .registers) k memory′
+    pub run-refused : (n : ℕ) → s .answer ≡ Step.Refused n →
+        after k (ran left image limits regs memory) ≡ stopped (Refused n) (s .registers) k memory′
     run-refused n e = stops (Refused n) (λ m. not-made-refused n (sym e ∙ m)) (rw e)
 
 -- what a loop that has stopped leaves is what the run is

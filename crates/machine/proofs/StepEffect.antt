@@ -1,7 +1,7 @@
 -- What a step changes: one that is not made changes nothing, and one that is made changes what its effect says.
-use Prim.Native.Nat.{ℕ, _+_, _-_, _%_, _≤_, _<_}
+use Prim.Native.Nat.{ℕ, _+_, _-_, _<_}
 use mathlib.Core.Path.{_≡_, refl, sym, _∙_}
-use mathlib.Core.Bool.{Bool, true, false, cond, true≢false}
+use mathlib.Core.Bool.{Bool, true, false}
 use mathlib.Core.List.{List, [], _∷_}
 use mathlib.Core.Logic.{_⊎_, inl, inr, ⊎-elim}
 use native.Mathlib.Omega.{arith}
@@ -12,10 +12,10 @@ use lib.Seq.{sets}
 use borrow.Author.Tests.{eqb-true, ltb-true}
 use Rattle.numbers.specs.Checks.{first}
 use Rattle.numbers.specs.Words.{high, low}
-use Rattle.numbers.proofs.Checking.{first-zero, under-zero, differ-zero, unless-zero}
+use Rattle.numbers.proofs.Checking.{by-test, first-zero, under-zero, differ-zero, unless-zero}
 use Rattle.numbers.proofs.Folding.{passed}
 use Rattle.stm8.specs.Decoding.{decoded}
-use Rattle.stm8.specs.Effects.{fallsThrough, effect}
+use Rattle.stm8.specs.Effects.{effect}
 use Rattle.stm8.specs.declared.Width.{Width}
 use Rattle.stm8.specs.declared.Place.{Place}
 use Rattle.stm8.specs.declared.Place.the-variants.{Nowhere, Direct, OnStack, Pushed}
@@ -23,7 +23,6 @@ use Rattle.stm8.specs.declared.Flow.{Flow}
 use Rattle.stm8.specs.declared.Flow.the-variants.{Next, Branch, Jump, Call, CallRelative, Return}
 use Rattle.stm8.specs.declared.Effect.{Effect}
 use Rattle.stm8.specs.declared.Instruction.{Instruction}
-use Rattle.stm8.specs.declared.Instruction.the-variants as I
 use Rattle.stm8.specs.declared.Decoded.{Decoded}
 use Rattle.stm8.specs.declared.Decoded.the-variants.{Found, Outside, Truncated}
 use Rattle.image.specs.declared.Limits.{Limits}
@@ -33,11 +32,14 @@ use Rattle.image.specs.Validation.{validated}
 use Rattle.image.proofs.Layouts.{valid-limits}
 use Rattle.machine.specs.Reading.{readWord}
 use Rattle.machine.specs.Computing.{computed}
-use Rattle.machine.specs.Step.{Result, result, spTrap, pcTrap, moveTrap, callTrap, effectTrap, calls, spAfter, pcAfter, bytesOfWidth, memoryAfter, made, decodedStep, stepValid, stepRefusal, stepped}
+use Rattle.machine.specs.Step.{Result, result, spTrap, pcTrap, moveTrap, isCall, callTrap, effectTrap, spAfter, pcAfter, bytesOfWidth}
+use Rattle.machine.specs.Step.{memoryAfter, made, decodedStep, stepValid, stepRefusal, stepped}
 use Rattle.machine.specs.Changes.{Covers, Names, GoesTo, Changes, MadeStep}
 use Rattle.machine.specs.declared.Registers.{Registers}
 use Rattle.machine.specs.declared.StepAnswer.the-variants.{Made, Finished, Trap, Refused}
-use Rattle.machine.proofs.Stores.{sets-other, word-stored, read-memory, bytes-length, size-kept}
+use Rattle.machine.proofs.Stores.{sets-other, word-stored, pushed-word, read-memory, bytes-length, size-kept}
+use Rattle.machine.proofs.StepLaws.{pops-fit}
+use Rattle.machine.proofs.EffectForms.{effect-form, call-form}
 
 -- memory: the bytes that a place does not name
 stored-other : (memory : List ℕ) (at : ℕ) (w : Width) (value address : ℕ) → (Covers at w address → ⊥) →
@@ -67,100 +69,58 @@ goes-to image memory sp next taken Return = refl
 
 -- SP, where 24 is not due
 module _ (limits : Limits) (areas : LimitsRules limits) (sp next : ℕ) (e : Effect) (allowed : effectTrap limits sp next e ≡ 0) where
-  sp-moves : (sp + e .pops ≤ limits .stack .high) × (spAfter sp e + e .pushes ≡ sp + e .pops)
+  sp-moves : spAfter sp e + e .pushes ≡ sp + e .pops
   unfolding effectTrap moveTrap
   sp-moves =
-      let ends = first-zero _ _ (passed _ allowed .0) in
       let low = areas .stackLow in
-      let room = under-zero _ _ 23 (ends .1) in
-      (under-zero _ _ 23 (ends .0), omega arith)
+      let room = under-zero _ _ 23 (first-zero _ _ (passed _ allowed .0) .1) in
+      omega arith
 
   -- and the address after a call, where 22 is not due
-  next-word : calls (e .flow) ≡ true → next < 0x10000
+  next-word : isCall (e .flow) ≡ true → next < 0x10000
   unfolding effectTrap callTrap
   next-word call = ltb-true _ _ (unless-zero _ 21 (rw call at (passed _ allowed .1 .1 .0)))
 
--- a call
-jump-calls : (falls : Bool) (n : ℕ) → calls (cond falls (Branch n) (Jump n)) ≡ true → ⊥
-jump-calls true n h = true≢false (sym h)
-jump-calls false n h = true≢false (sym h)
-
-module _ (image : List ℕ) (regs : Registers) (memory : List ℕ) (next : ℕ) where
-  -- a call stores the address after it just above the new SP
-  pushed-by-call : (i : Instruction) → calls (effect i .flow) ≡ true →
-      (effect i .pops ≡ 0) × (effect i .pushes ≡ 2) ×
-      (memoryAfter memory (regs .sp) (effect i) (computed image memory regs next i .stored) (effect i .place) ≡
-      sets memory (spAfter (regs .sp) (effect i) + 1) (high (next % 0x10000) ∷ low (next % 0x10000) ∷ []))
-  unfolding computed memoryAfter
-  pushed-by-call (I.Alu o x) h = absurd (true≢false (sym h))
-  pushed-by-call (I.Store x) h = absurd (true≢false (sym h))
-  pushed-by-call (I.LoadHalf r k) h = absurd (true≢false (sym h))
-  pushed-by-call (I.StoreHalf r k) h = absurd (true≢false (sym h))
-  pushed-by-call (I.Modify o x) h = absurd (true≢false (sym h))
-  pushed-by-call (I.LoadWord r x) h = absurd (true≢false (sym h))
-  pushed-by-call (I.StoreWord r x) h = absurd (true≢false (sym h))
-  pushed-by-call (I.CopyWord r) h = absurd (true≢false (sym h))
-  pushed-by-call (I.WordAlu o r w) h = absurd (true≢false (sym h))
-  pushed-by-call (I.WordModify o r) h = absurd (true≢false (sym h))
-  pushed-by-call (I.Pushw r) h = absurd (true≢false (sym h))
-  pushed-by-call (I.Popw r) h = absurd (true≢false (sym h))
-  pushed-by-call I.Exgw h = absurd (true≢false (sym h))
-  pushed-by-call (I.Mul r) h = absurd (true≢false (sym h))
-  pushed-by-call (I.Bit o n a) h = absurd (true≢false (sym h))
-  pushed-by-call (I.BitJump o n a j) h = absurd (true≢false (sym h))
-  pushed-by-call (I.Mov to from) h = absurd (true≢false (sym h))
-  pushed-by-call (I.Push x) h = absurd (true≢false (sym h))
-  pushed-by-call (I.Pop x) h = absurd (true≢false (sym h))
-  pushed-by-call (I.SubSp n) h = absurd (true≢false (sym h))
-  pushed-by-call (I.AddSp n) h = absurd (true≢false (sym h))
-  pushed-by-call (I.Jump o n) h = absurd (jump-calls (fallsThrough o) n h)
-  pushed-by-call (I.Call a) h = (refl, refl, refl)
-  pushed-by-call (I.Callr n) h = (refl, refl, refl)
-  pushed-by-call I.Ret h = absurd (true≢false (sym h))
-  pushed-by-call I.Nop h = absurd (true≢false (sym h))
-  pushed-by-call (I.Flag o) h = absurd (true≢false (sym h))
-
-module _ (image : List ℕ) (limits : Limits) (regs : Registers) (memory : List ℕ) (accepted : stepRefusal image limits memory ≡ 0) where
+module _ (image : List ℕ) (limits : Limits) (regs : Registers) (memory : List ℕ) (valid : stepRefusal image limits memory ≡ 0) where
   areas-hold : LimitsRules limits
   unfolding stepRefusal validated
-  areas-hold = valid-limits image limits (layoutOf image) (rw (first-zero _ _ accepted .1))
+  areas-hold = valid-limits image limits (layoutOf image) (rw (first-zero _ _ valid .1))
 
   memory-size : length memory ≡ 32768
   unfolding stepRefusal
-  memory-size = differ-zero _ _ 16 (first-zero _ _ accepted .0)
+  memory-size = differ-zero _ _ 16 (first-zero _ _ valid .0)
 
   module _ (next : ℕ) (i : Instruction) (allowed : effectTrap limits (regs .sp) next (effect i) ≡ 0) where
-    next-pushed : calls (effect i .flow) ≡ true →
+    -- a call stores the address after it just above the new SP
+    next-pushed : isCall (effect i .flow) ≡ true →
         readWord image (made image regs memory next i .1) (spAfter (regs .sp) (effect i) + 1) ≡ next
     unfolding made
     next-pushed call =
-        let by-call = pushed-by-call image regs memory next i call in
-        let moves = sp-moves limits areas-hold (regs .sp) next (effect i) allowed in
-        let at = spAfter (regs .sp) (effect i) + 1 in
-        let inside : at + 1 < 0x8000 = omega (arith, areas-hold .stack .high, moves .0, moves .1, by-call .0, by-call .1) in
+        let e = effect i in
+        let value = computed image memory regs next i .stored in
+        let form = call-form _ _ _ _ next (e .flow) call (effect-form image memory regs next i) in
+        let fits = pops-fit limits (regs .sp) next e allowed in
+        let moves = sp-moves limits areas-hold (regs .sp) next e allowed in
+        let at = spAfter (regs .sp) e + 1 in
+        let inside : at + 1 < 0x8000 = omega (arith, areas-hold .stack .high, form .0, form .1) in
         rw (
-          by-call .2,
-          read-memory image (sets memory at (high (next % 0x10000) ∷ low (next % 0x10000) ∷ [])) at inside,
-          word-stored memory at (next % 0x10000) (omega (arith, memory-size)),
+          pushed-word memory (regs .sp) e value (e .place) (form .2),
+          read-memory image (sets memory at (high value ∷ low value ∷ [])) at inside,
+          word-stored memory at value (omega (arith, memory-size)),
         )
-        (mod-eq-of-lt (next-word limits areas-hold (regs .sp) next (effect i) allowed call))
+        (form .3 ∙ mod-eq-of-lt (next-word limits areas-hold (regs .sp) next e allowed call))
 
     made-changes : Changes image next (effect i) regs memory (made image regs memory next i .0 .registers) (made image regs memory next i .1)
     unfolding made
     made-changes =
         let c = computed image memory regs next i in
         record {
-          sp = sp-moves limits areas-hold (regs .sp) next (effect i) allowed .1;
+          sp = sp-moves limits areas-hold (regs .sp) next (effect i) allowed;
           pc = goes-to image memory (regs .sp) next (c .taken) (effect i .flow);
           size = size-kept memory (regs .sp) (effect i) (c .stored) (effect i .place);
           bytes = other-bytes memory (regs .sp) (effect i) (c .stored) (effect i .place);
           pushed = next-pushed;
         }
-
--- by the two cases of a test
-pub by-test : {A : Type 0} (P : A → Type 0) (t : Bool) {x y : A} → (t ≡ true → P x) → (t ≡ false → P y) → P (cond t x y)
-by-test P true f g = f refl
-by-test P false f g = g refl
 
 not-finished-trap : (n : ℕ) → Trap n ≡ Finished → ⊥
 not-finished-trap n h = let z : _≡_ {A = ℕ} 0 1 = cc in omega arith
@@ -179,15 +139,15 @@ not-made-refused n h = let z : _≡_ {A = ℕ} 0 1 = cc in omega arith
 
 module _ (image : List ℕ) (limits : Limits) (regs : Registers) (memory : List ℕ) where
   -- a step that changes nothing
-  pub record Kept (after : Result) : Type 0 where
-    pub answer : after .0 .answer ≡ Made → ⊥
-    pub finished : after .0 .answer ≡ Finished → regs .pc ≡ 0
-    pub is : after ≡ result (after .0 .answer) regs memory
+  record Kept (after : Result) : Type 0 where
+    answer : after .0 .answer ≡ Made → ⊥
+    finished : after .0 .answer ≡ Finished → regs .pc ≡ 0
+    is : after ≡ result (after .0 .answer) regs memory
 
   -- a step that is made
-  pub record MadeByEffect (after : Result) : Type 0 where
-    pub answer : after .0 .answer ≡ Made
-    pub step : MadeStep image regs memory (after .0 .registers) (after .1)
+  record MadeByEffect (after : Result) : Type 0 where
+    answer : after .0 .answer ≡ Made
+    step : MadeStep image regs memory (after .0 .registers) (after .1)
 
   abbrev Way : Result → Type 0
   Way after = Kept after ⊎ MadeByEffect after
@@ -195,7 +155,7 @@ module _ (image : List ℕ) (limits : Limits) (regs : Registers) (memory : List 
   trap-keeps : (n : ℕ) → Way (result (Trap n) regs memory)
   trap-keeps n = inl (record { answer = not-made-trap n; finished = λ h. absurd (not-finished-trap n h); is = refl })
 
-  module _ (accepted : stepRefusal image limits memory ≡ 0) where
+  module _ (valid : stepRefusal image limits memory ≡ 0) where
     made-way : (i : Instruction) (n : ℕ) → decoded (drop (regs .pc - baseOf image) (codeOf image)) ≡ Found i n →
         effectTrap limits (regs .sp) (regs .pc + n) (effect i) ≡ 0 → Way (made image regs memory (regs .pc + n) i)
     unfolding made
@@ -208,7 +168,7 @@ module _ (image : List ℕ) (limits : Limits) (regs : Registers) (memory : List 
                 instruction = i;
                 size = n;
                 found = found;
-                changes = made-changes image limits regs memory accepted (regs .pc + n) i allowed;
+                changes = made-changes image limits regs memory valid (regs .pc + n) i allowed;
               };
         })
 

@@ -27,10 +27,11 @@ use Rattle.image.specs.ValidLayout.{ValidLayout}
 use Rattle.image.proofs.Layouts.{valid-bounds}
 use Rattle.image.proofs.Validity.{answer-refused, answer-valid}
 use Rattle.machine.specs.Computing.{computed}
-use Rattle.machine.specs.Step.{result, spTrap, pcTrap, moveTrap, effectTrap, memoryAfter, registersAfter, made, decodingTrap, decodedStep, stepValid, stepRefusal, stepped}
+use Rattle.machine.specs.Step.{result, spTrap, pcTrap, moveTrap, effectTrap, madeBy, made, decodingTrap, decodedStep, stepValid}
+use Rattle.machine.specs.Step.{stepRefusal, stepped}
 use Rattle.machine.specs.declared.Registers.{Registers}
 use Rattle.machine.specs.declared.Computed.{Computed}
-use Rattle.machine.specs.declared.StepAnswer.the-variants.{Made, Finished, Trap, Refused}
+use Rattle.machine.specs.declared.StepAnswer.the-variants.{Finished, Trap, Refused}
 
 module _ (image : List ℕ) (limits : Limits) (regs : Registers) (memory : List ℕ) where
   pub step-refused : (number : ℕ) → stepRefusal image limits memory ≡ number → (number ≡ 0 → ⊥) →
@@ -71,8 +72,7 @@ module _ (image : List ℕ) (limits : Limits) (regs : Registers) (memory : List 
 
   -- the instruction is made, by what it computes and its effect
   pub made-by : (i : Instruction) (next : ℕ) (c : Computed) (e : Effect) → c ≡ computed image memory regs next i → e ≡ effect i →
-      made image regs memory next i ≡
-      result Made (registersAfter image memory regs next c e) (memoryAfter memory (regs .sp) e (c .stored) (e .place))
+      made image regs memory next i ≡ madeBy image regs memory next c e
   unfolding made
   made-by i next c e p q = rw (p, q)
 
@@ -91,10 +91,10 @@ module _ (image : List ℕ) (limits : Limits) (memory : List ℕ) where
       (stepRefusal image limits memory ≡ number) × (number ≡ 0 → ⊥)
   refuses number e = answer-refused (stepRefusal image limits memory) (layoutOf image) number e
 
-  pub accepts : (layout : Layout) → answer (stepRefusal image limits memory) (layoutOf image) ≡ Validated.Valid layout →
+  pub validates : (layout : Layout) → answer (stepRefusal image limits memory) (layoutOf image) ≡ Validated.Valid layout →
       (stepRefusal image limits memory ≡ 0) × ValidLayout image layout
   unfolding stepRefusal validated
-  accepts layout e =
+  validates layout e =
       let is = answer-valid (stepRefusal image limits memory) (layoutOf image) layout e in
       let valid : validated image limits ≡ Validated.Valid layout = rw (first-zero _ _ (is .0) .1) (ap Validated.Valid (sym (is .1))) in
       (is .0, valid-bounds image limits layout valid)

@@ -38,6 +38,12 @@ word-stored memory at value inside =
     rw one (getD-set-same (set memory at (high value)) (suc at) (low value) 0 (omega arith)) in
     rw (lower, upper) (word-high-low value)
 
+-- a word that is pushed
+pub pushed-word : (memory : List ℕ) (sp : ℕ) (e : Effect) (value : ℕ) (place : Place) → place ≡ Pushed Word →
+    memoryAfter memory sp e value place ≡ sets memory (spAfter sp e + 1) (high value ∷ low value ∷ [])
+unfolding memoryAfter
+pushed-word memory sp e value place p = rw p
+
 -- a word below 8000 is read from memory
 pub read-memory : (image memory : List ℕ) (at : ℕ) → at + 1 < 0x8000 → readWord image memory at ≡ wordAt memory at
 unfolding readWord readByte wordAt

@@ -17,7 +17,7 @@ use Rattle.stm8.specs.declared.Instruction.{Instruction}
 use Rattle.stm8.specs.declared.Decoded.the-variants.{Found}
 use Rattle.image.specs.Image.{baseOf, codeOf}
 use Rattle.machine.specs.Reading.{readWord}
-use Rattle.machine.specs.Step.{calls}
+use Rattle.machine.specs.Step.{isCall}
 use Rattle.machine.specs.declared.Registers.{Registers}
 
 -- an address is among the bytes of a width from another on
@@ -50,7 +50,7 @@ pub record Changes (image : List ℕ) (next : ℕ) (e : Effect) (regs : Register
   -- no byte of memory changes but those that the place names
   pub bytes : (address : ℕ) → (Names (regs .sp) (regs′ .sp) (e .place) address → ⊥) → getD memory′ address 0 ≡ getD memory address 0
   -- a call pushes the next address
-  pub pushed : calls (e .flow) ≡ true → readWord image memory′ (regs′ .sp + 1) ≡ next
+  pub pushed : isCall (e .flow) ≡ true → readWord image memory′ (regs′ .sp + 1) ≡ next
 
 -- an instruction stands at PC, and its effect is all that changes beside A, X, Y and CC
 pub record MadeStep (image : List ℕ) (regs : Registers) (memory : List ℕ) (regs′ : Registers) (memory′ : List ℕ) : Type 0 where

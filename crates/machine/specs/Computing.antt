@@ -140,7 +140,7 @@ intoOperand regs (Long a) r = storing regs (r .value) (r .cc)
 intoOperand regs (Indexed q f) r = storing regs (r .value) (r .cc)
 intoOperand regs (Sp f) r = storing regs (r .value) (r .cc)
 
--- loads between registers touch no flag
+-- XL and XH, YL and YH: the halves of an index register
 abbrev pub halfOf : Half → ℕ → ℕ
 halfOf Low w = low w
 halfOf High w = high w
@@ -156,7 +156,8 @@ otherOf Y = X
 abbrev pub exchanged : Registers → Computed
 exchanged regs = record { a = regs .a; x = regs .y; y = regs .x; cc = regs .cc; stored = 0; taken = false }
 
--- an instruction, with the address after it; POP and POPW read above SP, and a call stores the address after it, 16 bits
+-- an instruction, with the address after it; loads between registers touch no flag, POP and POPW read above SP, and a call stores the address
+-- after it, 16 bits
 unfoldable pub computed : List ℕ → List ℕ → Registers → ℕ → Instruction → Computed
 computed image memory regs next (I.Alu o x) = withA regs (aluResult o (regs .a) (byteOf image memory regs x) (regs .cc))
 computed image memory regs next (I.Store x) = storing regs (regs .a) (LD (regs .a) (regs .cc) .cc)
@@ -173,7 +174,9 @@ computed image memory regs next (I.Popw r) = withIndex regs r (record { value = 
 computed image memory regs next I.Exgw = exchanged regs
 computed image memory regs next (I.Mul r) = withIndex regs r (MUL (indexOf regs r) (regs .a) (regs .cc))
 computed image memory regs next (I.Bit o n a) = storing regs (bitResult o n (readByte image memory a) (regs .cc)) (regs .cc)
-computed image memory regs next (I.BitJump o n a j) = testing regs (bitHolds o (isSet n (readByte image memory a))) (BTJ n (readByte image memory a) (regs .cc))
+computed image memory regs next (I.BitJump o n a j) =
+    let m = readByte image memory a in
+    testing regs (bitHolds o (isSet n m)) (BTJ n m (regs .cc))
 computed image memory regs next (I.Mov to from) = storing regs (byteOf image memory regs from) (regs .cc)
 computed image memory regs next (I.Push x) = storing regs (byteOf image memory regs x) (regs .cc)
 computed image memory regs next (I.Pop x) = intoOperand regs x (record { value = readByte image memory (regs .sp + 1); cc = regs .cc })

@@ -33,17 +33,7 @@ offsetOf Zero = 0
 offsetOf (Byte n) = n
 offsetOf (Word w) = w
 
--- the address of an operand in memory: X, Y or SP plus an offset is not cut to 16 bits
-abbrev pub addressOf : Registers → Operand → ℕ
-addressOf regs Accumulator = 0
-addressOf regs (Immediate n) = 0
-addressOf regs (ImmediateWord w) = 0
-addressOf regs (Short a) = a
-addressOf regs (Long a) = a
-addressOf regs (Indexed r f) = indexOf regs r + offsetOf f
-addressOf regs (Sp f) = regs .sp + f
-
--- an operand's byte, and its word
+-- an operand's byte, and its word; X, Y or SP plus an offset is not cut to 16 bits
 abbrev pub byteOf : List ℕ → List ℕ → Registers → Operand → ℕ
 byteOf image memory regs Accumulator = regs .a
 byteOf image memory regs (Immediate n) = n

@@ -1,7 +1,8 @@
 -- A run: steps until the routine finishes, traps or the steps are used up.
-use Prim.Native.Nat.{ℕ, zero, suc, _+_}
+use Prim.Native.Nat.{ℕ, zero, suc, _+_, _≤_}
 use mathlib.Core.Path.{_≡_}
 use mathlib.Core.Bool.{cond}
+use mathlib.Core.Logic.{_⊎_}
 use mathlib.Core.List.{List}
 use lib.Dec.{eqb}
 use Rattle.image.specs.declared.Limits.{Limits}
@@ -56,6 +57,12 @@ runNumber Finished = 0
 runNumber Spent = 0
 runNumber (Trap number) = number
 runNumber (Refused number) = number
+
+-- what that number says of a run: the refusal's where there is one, else a trap's, and 0 where it is finished or spent
+pub record RunNumbered (refused : ℕ) (answer : RunAnswer) : Type 0 where
+  pub refusal : (refused ≡ 0 → ⊥) → runNumber answer ≡ refused
+  pub trap : refused ≡ 0 → (runNumber answer ≡ 0 → ⊥) → (21 ≤ runNumber answer) × (runNumber answer ≤ 25)
+  pub none : runNumber answer ≡ 0 → (answer ≡ Finished) ⊎ (answer ≡ Spent)
 
 -- what an answer says of a run with a budget: finished, PC is 0; spent, the steps equal the budget and PC is not 0
 abbrev pub Says : ℕ → Ran → RunAnswer → Type 0

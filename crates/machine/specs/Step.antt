@@ -1,6 +1,8 @@
 -- One step: 17 and 1 to 4, then finished, then the traps in document 01's order, then made.
-use Prim.Native.Nat.{ℕ, _+_, _-_}
+use Prim.Native.Nat.{ℕ, _+_, _-_, _≤_}
+use mathlib.Core.Path.{_≡_}
 use mathlib.Core.Bool.{Bool, true, false, cond}
+use mathlib.Core.Logic.{_⊎_}
 use mathlib.Core.List.{List, [], _∷_}
 use lib.Dec.{eqb, ltb}
 use lib.ListN.{length, drop}
@@ -59,17 +61,17 @@ storeTrap limits sp (Direct a w) = unless (granted limits a (bytesWide w)) 25
 storeTrap limits sp (OnStack f w) = first (under f 1 25) (under (limits .stack .high + 1) (sp + f + bytesWide w) 25)
 storeTrap limits sp (Pushed w) = 0
 
--- a call whose next address is 10000 traps 22 after 25 was tested
-abbrev pub calls : Flow → Bool
-calls Next = false
-calls (Branch n) = false
-calls (Jump n) = false
-calls (Call a) = true
-calls (CallRelative n) = true
-calls Return = false
+abbrev pub isCall : Flow → Bool
+isCall Next = false
+isCall (Branch n) = false
+isCall (Jump n) = false
+isCall (Call a) = true
+isCall (CallRelative n) = true
+isCall Return = false
 
+-- 22, a call whose next address is 10000: after 25 was tested
 unfoldable pub callTrap : ℕ → Flow → ℕ
-callTrap next flow = cond (calls flow) (unless (ltb next 0x10000) 22) 0
+callTrap next flow = cond (isCall flow) (unless (ltb next 0x10000) 22) 0
 
 unfoldable pub effectTrap : Limits → ℕ → ℕ → Effect → ℕ
 effectTrap limits sp next e = firstIn (moveTrap limits sp e ∷ storeTrap limits sp (e .place) ∷ callTrap next (e .flow) ∷ [])
@@ -110,12 +112,13 @@ registersAfter image memory regs next c e =
       pc = pcAfter image memory (regs .sp) next (c .taken) (e .flow);
     }
 
--- an instruction that no trap stops
-unfoldable pub made : List ℕ → Registers → List ℕ → ℕ → Instruction → Result
-made image regs memory next i =
-    let c = computed image memory regs next i in
-    let e = effect i in
+-- an instruction that no trap stops, by what it computes and its effect
+abbrev pub madeBy : List ℕ → Registers → List ℕ → ℕ → Computed → Effect → Result
+madeBy image regs memory next c e =
     result Made (registersAfter image memory regs next c e) (memoryAfter memory (regs .sp) e (c .stored) (e .place))
+
+unfoldable pub made : List ℕ → Registers → List ℕ → ℕ → Instruction → Result
+made image regs memory next i = madeBy image regs memory next (computed image memory regs next i) (effect i)
 
 -- 23 outside the set, 22 where the bytes run out
 abbrev pub decodingTrap : Decoded → ℕ
@@ -155,3 +158,9 @@ stepNumber Made = 0
 stepNumber Finished = 0
 stepNumber (Trap number) = number
 stepNumber (Refused number) = number
+
+-- what that number says of a step: the refusal's where there is one, else a trap's, and 0 where it is made or finished
+pub record StepNumbered (refused : ℕ) (answer : StepAnswer) : Type 0 where
+  pub refusal : (refused ≡ 0 → ⊥) → stepNumber answer ≡ refused
+  pub trap : refused ≡ 0 → (stepNumber answer ≡ 0 → ⊥) → (21 ≤ stepNumber answer) × (stepNumber answer ≤ 25)
+  pub none : stepNumber answer ≡ 0 → (answer ≡ Made) ⊎ (answer ≡ Finished)

@@ -15,7 +15,7 @@ ghost use Rattle.machine.specs.Run.{ran, onlyStep};
 use image::Limits;
 use image::Validated;
 
-// PC has 24 bits and the others 8 or 16, as document 01 says.
+// Document 01 gives PC 24 bits; it is held in 32, and a larger value is in no code.
 pub struct Registers {
     pub a: u8,
     pub x: u16,
@@ -78,7 +78,7 @@ pub fn run(
     }
 }
 
-// The step that a run of one step tried.
+// The step that a run of one step tried. Spent, such a run has made its step, so the arm of one that is spent with no step cannot come.
 fn only_step(ran: Ran) -> Stepped
     ensures { λ r. ⌜ r ≡ onlyStep ran ⌝ }
 {

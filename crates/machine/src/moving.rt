@@ -3,7 +3,7 @@ ghost use mathlib.Core.Path.{_≡_};
 ghost use Prim.Native.Nat.{_+_, _<_};
 ghost use lib.Seq.{sets};
 ghost use Rattle.stm8.specs.Effects.{relative as relativeTo};
-ghost use Rattle.machine.specs.Step.{result, bytesOfWidth, spAfter, pcAfter, memoryAfter, registersAfter};
+ghost use Rattle.machine.specs.Step.{bytesOfWidth, spAfter, pcAfter, memoryAfter, madeBy};
 use crate::Computed;
 use crate::Registers;
 use crate::StepAnswer;
@@ -20,7 +20,7 @@ use stm8::Width;
 
 // The bytes of a value, high byte first.
 fn put(memory: &mut [u8], at: u32, w: Width, value: u16)
-    ensures { λ r. ⌜ now (memory .exit) ≡ sets (now (memory .entry)) at (bytesOfWidth w value) ⌝ }
+    ensures { λ _. ⌜ now (memory .exit) ≡ sets (now (memory .entry)) at (bytesOfWidth w value) ⌝ }
 {
     match w {
         Width::Byte => put_byte(memory, at as usize, low(value)),
@@ -74,7 +74,7 @@ impl Registers {
     // Stores a value where the effect says; what is pushed lies just above the new SP.
     fn store(self, memory: &mut [u8], e: Effect, value: u16)
         requires { ⌜ self .sp + e .pops < 0x10000 ⌝ }
-        ensures { λ r. ⌜ now (memory .exit) ≡ memoryAfter (now (memory .entry)) (self .sp) e value (e .place) ⌝ }
+        ensures { λ _. ⌜ now (memory .exit) ≡ memoryAfter (now (memory .entry)) (self .sp) e value (e .place) ⌝ }
     {
         let place = e.place;
         match place {
@@ -105,7 +105,7 @@ impl Registers {
     ) -> Stepped
         requires { ⌜ self .sp + e .pops < 0x10000 ⌝ }
         requires { ⌜ next < 0x1000000 ⌝ }
-        ensures { λ r. ⌜ result StepAnswer.Made (registersAfter (now (image .entry)) (now (memory .entry)) self next c e) (memoryAfter (now (memory .entry)) (self .sp) e (c .stored) (e .place)) ≡ (r, now (memory .exit)) ⌝ }
+        ensures { λ r. ⌜ madeBy (now (image .entry)) self (now (memory .entry)) next c e ≡ (r, now (memory .exit)) ⌝ }
     {
         let flow = e.flow;
         let pc = self.pc_after(image, memory, next, c.taken, flow);

@@ -1,6 +1,7 @@
 // The operations: each name's page of the manual.
 ghost use mathlib.Core.Path.{_≡_};
-ghost use Rattle.machine.specs.Computing.{aluResult, modifyResult, wordAluResult, wordModifyResult, bitResult, flagResult, holds as holdsOf, bitHolds as bitHoldsOf, halfOf, withHalf};
+ghost use Rattle.machine.specs.Computing.{aluResult, modifyResult, wordAluResult, wordModifyResult, bitResult, flagResult};
+ghost use Rattle.machine.specs.Computing.{holds as holdsOf, bitHolds as bitHoldsOf, halfOf, withHalf};
 use crate::Registers;
 use arithmetic::ByteResult;
 use arithmetic::WordResult;

@@ -1,6 +1,7 @@
 // Where a result goes.
 ghost use mathlib.Core.Path.{_≡_};
-ghost use Rattle.machine.specs.Computing.{unchanged as unchangedOf, withA, withIndex, storing as storingOf, testing as testingOf, intoOperand, exchanged as exchangedOf};
+ghost use Rattle.machine.specs.Computing.{unchanged as unchangedOf, withA, withIndex, exchanged as exchangedOf};
+ghost use Rattle.machine.specs.Computing.{storing as storingOf, testing as testingOf, intoOperand};
 use crate::Computed;
 use crate::Registers;
 use arithmetic::ByteResult;

@@ -32,7 +32,7 @@ impl Registers {
         budget: u32,
     ) -> Ran
         requires valid { ⌜ ValidLayout (now image) layout ⌝ }
-        requires accepted { ⌜ stepRefusal (now image) limits (now memory) ≡ 0 ⌝ }
+        requires passes { ⌜ stepRefusal (now image) limits (now memory) ≡ 0 ⌝ }
         ensures { λ r. ⌜ ran budget (now (image .entry)) limits self (now (memory .entry)) ≡ (r, now (memory .exit)) ⌝ }
     {
         let plain = stm8::plain_lengths();
@@ -56,9 +56,9 @@ impl Registers {
                 &after_72,
                 &after_90,
             );
-            let made = stepped.answer;
+            let outcome = stepped.answer;
             registers = stepped.registers;
-            match made {
+            match outcome {
                 StepAnswer::Made => left -= 1,
                 StepAnswer::Finished => break RunAnswer::Finished,
                 StepAnswer::Trap(number) => break RunAnswer::Trap(number),

@@ -2,7 +2,7 @@
 ghost use mathlib.Core.Path.{_≡_};
 ghost use Prim.Native.Nat.{_+_, _≤_};
 ghost use Rattle.numbers.specs.Checks.{first as firstOf, under as underOf};
-ghost use Rattle.machine.specs.Step.{spTrap, moveTrap, storeTrap, callTrap, effectTrap, calls as callsOf};
+ghost use Rattle.machine.specs.Step.{spTrap, moveTrap, storeTrap, callTrap, effectTrap, isCall};
 use effects::bytes_wide;
 use image::Layout;
 use image::Limits;
@@ -67,8 +67,8 @@ fn store_trap(limits: Limits, sp: u16, place: Place) -> u8
     }
 }
 
-fn calls(flow: Flow) -> bool
-    ensures { λ r. ⌜ r ≡ callsOf flow ⌝ }
+fn is_call(flow: Flow) -> bool
+    ensures { λ r. ⌜ r ≡ isCall flow ⌝ }
 {
     match flow {
         Flow::Next => false,
@@ -84,7 +84,7 @@ fn calls(flow: Flow) -> bool
 fn call_trap(next: u32, flow: Flow) -> u8
     ensures { λ r. ⌜ r ≡ callTrap next flow ⌝ }
 {
-    if calls(flow) {
+    if is_call(flow) {
         unless(next < 0x10000, 22)
     } else {
         0

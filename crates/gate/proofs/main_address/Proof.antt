@@ -7,10 +7,12 @@ use Rattle.gate.proofs.main_address.Statement.{statement}
 use Rattle.gate.proofs.main_address.Tie as tie
 
 place : (c : tie.After-routine-length) →
-    MainPlace (now (c .before .before .before .before .args .image)) (c .before .before .base-of .result) (c .before .count-of .result) (c .routine-length .result)
+    let c2 = c .before .before in
+    MainPlace (now (c2 .before .before .args .image)) (c2 .base-of .result) (c .before .count-of .result) (c .routine-length .result)
 place c =
-    let c4 = c .before .before .before .before in
-    main-place (now (c4 .args .image)) (c4 .pre) _ _ _ (c .before .before .base-of .ensures) (c .before .count-of .ensures) (c .routine-length .ensures)
+    let c2 = c .before .before in
+    let start = c2 .before .before in
+    main-place (now (start .args .image)) (start .pre) _ _ _ (c2 .base-of .ensures) (c .before .count-of .ensures) (c .routine-length .ensures)
 
 pub main-address-spec : {M : Type 1} → statement M
 main-address-spec =

@@ -12,7 +12,8 @@ begin-requires : tie.Need-begin-requires
 begin-requires c κs =
     let c5 = c .before .before .before .before .before in
     let args = c5 .before .before .before .before .before .before .args in
-    start-ready _ _ _ (now (args .memory)) (c5 .check .result) _ _ _ (c5 .before .before .if1 .left) (c5 .check .ensures) (c .before .enum-told2 .given .1)
+    start-ready _ _ _ (now (args .memory)) (c5 .check .result) _ _ _ (c5 .before .before .if1 .left) (c5 .check .ensures)
+    (c .before .enum-told2 .given .1)
 
 returns-2 : tie.Need-returns-2
 returns-2 c =

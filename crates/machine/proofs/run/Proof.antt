@@ -2,23 +2,27 @@
 use mathlib.Core.Path.{sym, _∙_}
 use denote.Ref.{now}
 use borrow.Author.Needs.{needs}
-use Rattle.machine.proofs.StepLaws.{refuses, accepts}
+use Rattle.machine.proofs.StepLaws.{refuses, validates}
 use Rattle.machine.proofs.RunLaws.{refused-at-once}
 use Rattle.machine.proofs.run.Statement.{statement}
 use Rattle.machine.proofs.run.Tie as tie
 
 run-requires : tie.Need-run-requires
 run-requires c κs =
-    let a = c .before .before .before .before .before .before .before .before .args in
-    let accepted = accepts (now (a .image)) (a .limits) (now (a .memory)) _ (sym (c .before .before .before .before .validate .ensures) ∙ c .before .before .validated2 .given .1) in
-    (accepted .1, accepted .0)
+    let c2 = c .before .before in
+    let c4 = c2 .before .before in
+    let a = c4 .before .before .before .before .args in
+    let valid = validates (now (a .image)) (a .limits) (now (a .memory)) _ (sym (c4 .validate .ensures) ∙ c2 .validated2 .given .1) in
+    (valid .1, valid .0)
 
 returns : tie.Need-returns
 returns c =
-    let a = c .before .before .before .before .before .before .before .before .args in
+    let c2 = c .before .before in
+    let c4 = c2 .before .before in
+    let a = c4 .before .before .before .before .args in
     rw (
       refused-at-once (a .budget) (now (a .image)) (a .limits) (a .registers) (now (a .memory)) _
-          (refuses (now (a .image)) (a .limits) (now (a .memory)) _ (sym (c .before .before .before .before .validate .ensures) ∙ c .before .before .validated .given .1)),
+          (refuses (now (a .image)) (a .limits) (now (a .memory)) _ (sym (c4 .validate .ensures) ∙ c2 .validated .given .1)),
       c .ended .ensures,
     )
 

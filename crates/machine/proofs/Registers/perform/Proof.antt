@@ -21,26 +21,31 @@ trap-is c =
 
 returns : tie.Need-returns
 returns c =
-    let a = c .before .before .before .before .before .before .before .args in
+    let c2 = c .before .before in
+    let a = c2 .before .before .before .before .before .args in
     rw (
-      trapped-late (now (a .image)) (a .limits) (a .self) (now (a .memory)) (a .i) (a .n) _ (trap-is (c .before .before)) (ne-eqb _ _ (c .before .if1 .taken)),
+      trapped-late (now (a .image)) (a .limits) (a .self) (now (a .memory)) (a .i) (a .n) _ (trap-is c2) (ne-eqb _ _ (c .before .if1 .taken)),
       c .answer .ensures,
     )
 
 made-requires : tie.Need-made-requires
 made-requires c κs =
-    let start = c .before .before .before .before .before .before .before .before .before in
+    let c4 = c .before .before .before .before in
+    let start = c4 .before .before .before .before .before in
     let a = start .args in
-    let none : effectTrap (a .limits) (a .self .sp) (a .self .pc + a .n) (c .before .before .before .before .before .effect-of .result) ≡ 0 =
-    sym (c .before .before .before .before .effect-trap .ensures) ∙ c .before .before .before .if1 .left in
-    (omega (arith, pops-fit (a .limits) (a .self .sp) (a .self .pc + a .n) (c .before .before .before .before .before .effect-of .result) none, start .good .1 .1 .0), start .pre)
+    let e = c4 .before .effect-of .result in
+    let none : effectTrap (a .limits) (a .self .sp) (a .self .pc + a .n) e ≡ 0 =
+    sym (c4 .effect-trap .ensures) ∙ c .before .before .before .if1 .left in
+    (omega (arith, pops-fit (a .limits) (a .self .sp) (a .self .pc + a .n) e none, start .good .1 .1 .0), start .pre)
 
 returns-2 : tie.Need-returns-2
 returns-2 c =
-    let a = c .before .before .before .before .before .before .before .before .before .before .before .before .args in
-    makes (now (a .image)) (a .limits) (a .self) (now (a .memory)) (a .i) (a .n) _ (trap-is (c .before .before .before .before .before .before .before)) (eq-eqb _ _ (c .before .before .before .before .before .before .if1 .left)) ∙
-    made-by (now (a .image)) (a .limits) (a .self) (now (a .memory)) (a .i) (a .self .pc + a .n) _ _ (c .before .before .before .before .compute .ensures)
-    (c .before .before .before .before .before .before .before .before .effect-of .ensures) ∙
+    let c4 = c .before .before .before .before in
+    let c7 = c4 .before .before .before in
+    let a = c7 .before .before .before .before .before .args in
+    makes (now (a .image)) (a .limits) (a .self) (now (a .memory)) (a .i) (a .n) _ (trap-is c7) (eq-eqb _ _ (c4 .before .before .if1 .left)) ∙
+    made-by (now (a .image)) (a .limits) (a .self) (now (a .memory)) (a .i) (a .self .pc + a .n) _ _ (c4 .compute .ensures)
+    (c7 .before .effect-of .ensures) ∙
     c .before .before .made .ensures
 
 pub perform-spec : {M : Type 1} → statement M

@@ -41,11 +41,13 @@ step-requires c κs =
 
 loop-again : tie.Need-loop-again Inv-loop μ-loop
 loop-again c =
-    let v = c .before .before .before .before .before .before .before .before .before .before .before .loop in
-    let start = c .before .before .before .before .before .before .before .before .before .before .before .before .before .before .before .before .before in
+    let c5 = c .before .before .before .before .before in
+    let c10 = c5 .before .before .before .before .before in
+    let v = c10 .before .loop in
+    let start = c10 .before .before .before .before .before .before .before in
     let a = start .args in
-    let s = c .before .before .before .before .before .step in
-    let some = c .before .before .before .before .before .before .before .before .before .before .if1 .left in
+    let s = c5 .step in
+    let some = c10 .if1 .left in
     let within = v .inv .0 in
     let h : v .left ≡ v .left - 1 + 1 = omega arith in
     let e : a .budget - (v .left - 1) ≡ a .budget - v .left + 1 = omega arith in (
@@ -78,34 +80,34 @@ returns c =
     let start = c .before .before .before .before .before .before .before in
     let a = start .args in
     let k = a .budget - v .left in
-    let accepted : stepRefusal (now (a .image)) (a .limits) (v .memory) ≡ 0 =
+    let valid : stepRefusal (now (a .image)) (a .limits) (v .memory) ≡ 0 =
     same-refusal (now (a .image)) (a .limits) (now (a .memory)) (v .memory) (v .inv .1) ∙ start .pre .1 in
     ⊎-elim
     (λ w. ends _ _ (v .inv .2)
-    (out-finished (now (a .image)) (a .limits) k (v .registers) (v .memory) accepted (v .left) (w .0 .taken) (w .2 .taken))
+    (out-finished (now (a .image)) (a .limits) k (v .registers) (v .memory) valid (v .left) (w .0 .taken) (w .2 .taken))
     (w .5) (w .4) (w .3))
     (⊎-elim
     (λ w. ends _ _ (v .inv .2)
-    (out-spent (now (a .image)) (a .limits) k (v .registers) (v .memory) accepted (v .left) (w .0 .taken) (w .2 .left))
+    (out-spent (now (a .image)) (a .limits) k (v .registers) (v .memory) valid (v .left) (w .0 .taken) (w .2 .left))
     (w .5) (w .4) (w .3))
     (⊎-elim
     (λ w.
     let h : v .left ≡ v .left - 1 + 1 = omega (arith, w .0 .left) in
     ends _ _ (v .inv .2)
-    (run-finished (now (a .image)) (a .limits) k (v .registers) (v .memory) accepted (v .left) (v .left - 1) h (w .5 .result) _ (w .5 .ensures)
+    (run-finished (now (a .image)) (a .limits) k (v .registers) (v .memory) valid (v .left) (v .left - 1) h (w .5 .result) _ (w .5 .ensures)
     (w .10 .given .1))
     (w .13) (w .12) (w .11))
     (⊎-elim
     (λ w.
     let h : v .left ≡ v .left - 1 + 1 = omega (arith, w .0 .left) in
     ends _ _ (v .inv .2)
-    (run-trapped (now (a .image)) (a .limits) k (v .registers) (v .memory) accepted (v .left) (v .left - 1) h (w .5 .result) _ (w .5 .ensures) _
+    (run-trapped (now (a .image)) (a .limits) k (v .registers) (v .memory) valid (v .left) (v .left - 1) h (w .5 .result) _ (w .5 .ensures) _
     (w .10 .given .1))
     (w .14) (w .13) (w .12))
     (λ w.
     let h : v .left ≡ v .left - 1 + 1 = omega (arith, w .0 .left) in
     ends _ _ (v .inv .2)
-    (run-refused (now (a .image)) (a .limits) k (v .registers) (v .memory) accepted (v .left) (v .left - 1) h (w .5 .result) _ (w .5 .ensures) _
+    (run-refused (now (a .image)) (a .limits) k (v .registers) (v .memory) valid (v .left) (v .left - 1) h (w .5 .result) _ (w .5 .ensures) _
     (w .10 .given .1))
     (w .14) (w .13) (w .12)))))
     (c .if1 .came)

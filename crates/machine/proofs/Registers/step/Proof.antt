@@ -13,7 +13,8 @@ use Rattle.machine.proofs.Registers.step.Tie as tie
 
 -- the trap that was found is 21, or 22 of PC
 trap-is : (c : tie.After-first) →
-    let a = c .before .before .before .before .before .before .args in c .first .result ≡ first (spTrap (a .limits) (a .self .sp)) (pcTrap (now (a .image)) (a .self .pc))
+    let a = c .before .before .before .before .before .before .args in
+    c .first .result ≡ first (spTrap (a .limits) (a .self .sp)) (pcTrap (now (a .image)) (a .self .pc))
 trap-is c =
     let start = c .before .before .before .before .before .before in
     let a = start .args in
@@ -33,9 +34,10 @@ decoded : (c : tie.After-decode-at) →
     stepValid (now (a .image)) (a .limits) (a .self) (now (a .memory)) ≡
     decodedStep (now (a .image)) (a .limits) (a .self) (now (a .memory)) (c .decode-at .result)
 decoded c =
-    let a = c .before .before .before .before .before .before .before .before .args in
-    decodes (now (a .image)) (a .limits) (a .self) (now (a .memory)) (ne-eqb _ _ (c .before .before .before .before .before .if1 .left)) _ (trap-is (c .before .before))
-    (eq-eqb _ _ (c .before .if2 .left)) ∙
+    let c2 = c .before .before in
+    let c5 = c2 .before .before .before in
+    let a = c5 .before .before .before .args in
+    decodes (now (a .image)) (a .limits) (a .self) (now (a .memory)) (ne-eqb _ _ (c5 .if1 .left)) _ (trap-is c2) (eq-eqb _ _ (c .before .if2 .left)) ∙
     ap (decodedStep (now (a .image)) (a .limits) (a .self) (now (a .memory))) (sym (c .decode-at .ensures))
 
 returns : tie.Need-returns
@@ -45,9 +47,11 @@ returns c =
 
 returns-2 : tie.Need-returns-2
 returns-2 c =
-    let a = c .before .before .before .before .before .before .before .before .args in
+    let c2 = c .before .before in
+    let c5 = c2 .before .before .before in
+    let a = c5 .before .before .before .args in
     rw (
-      trapped-early (now (a .image)) (a .limits) (a .self) (now (a .memory)) (ne-eqb _ _ (c .before .before .before .before .before .if1 .left)) _ (trap-is (c .before .before))
+      trapped-early (now (a .image)) (a .limits) (a .self) (now (a .memory)) (ne-eqb _ _ (c5 .if1 .left)) _ (trap-is c2)
           (ne-eqb _ _ (c .before .if2 .taken)),
       c .answer2 .ensures,
     )
@@ -57,24 +61,29 @@ decode-at-requires c κs = let start = c .before .before .before .before .before
 
 returns-3 : tie.Need-returns-3
 returns-3 c =
-    let a = c .before .before .before .before .before .before .before .before .before .before .before .args in
+    let c2 = c .before .before in
+    let c3 = c2 .before in
+    let a = c3 .before .before .before .before .before .before .before .before .args in
     rw (
-      decoded (c .before .before .before) ∙ undecoded (now (a .image)) (a .limits) (a .self) (now (a .memory)) (c .before .before .before .decode-at .result) (c .before .before .match .keys2),
+      decoded c3 ∙ undecoded (now (a .image)) (a .limits) (a .self) (now (a .memory)) (c3 .decode-at .result) (c2 .match .keys2),
       c .answer3 .ensures,
       c .before .decoding-trap .ensures,
     )
 
 perform-requires : tie.Need-perform-requires
 perform-requires c κs =
-    let start = c .before .before .before .before .before .before .before .before .before .before .before .before in
+    let c4 = c .before .before .before .before in
+    let start = c4 .before .before .before .before .before .before .before .before in
     let a = start .args in
-    let few = found-within _ _ _ (sym (c .before .before .before .before .decode-at .ensures) ∙ c .before .before .decoded .given .1) .1 in
-    next-small (now (a .image)) (a .layout) (start .pre .0) (a .self .pc) (inside (c .before .before .before .before .before)) _ few
+    let few = found-within _ _ _ (sym (c4 .decode-at .ensures) ∙ c .before .before .decoded .given .1) .1 in
+    next-small (now (a .image)) (a .layout) (start .pre .0) (a .self .pc) (inside (c4 .before)) _ few
 
 returns-4 : tie.Need-returns-4
 returns-4 c =
-    let a = c .before .before .before .before .before .before .before .before .before .before .before .before .before .before .before .args in
-    decoded (c .before .before .before .before .before .before .before) ∙ ap (decodedStep (now (a .image)) (a .limits) (a .self) (now (a .memory))) (c .before .before .before .before .before .decoded .given .1) ∙
+    let c5 = c .before .before .before .before .before in
+    let c7 = c5 .before .before in
+    let a = c7 .before .before .before .before .before .before .before .before .args in
+    decoded c7 ∙ ap (decodedStep (now (a .image)) (a .limits) (a .self) (now (a .memory))) (c5 .decoded .given .1) ∙
     c .before .before .perform .ensures
 
 pub step-spec : {M : Type 1} → statement M

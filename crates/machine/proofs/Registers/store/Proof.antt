@@ -29,4 +29,6 @@ store-spec =
     (λ c. search needs)
     (λ c. rw (c .before .before .put2 .ensures, c .before .before .before .before .before .before .place2 .given .1))
     (λ c. search needs)
-    (λ c. rw (c .before .before .put3 .ensures, c .before .before .before .sp-after .ensures, c .before .before .before .before .before .before .place3 .given .1)))
+    (λ c.
+    let c3 = c .before .before .before in
+    rw (c .before .before .put3 .ensures, c3 .sp-after .ensures, c3 .before .before .before .place3 .given .1)))

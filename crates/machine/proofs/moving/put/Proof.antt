@@ -18,13 +18,18 @@ put-spec =
     (λ c. search needs)
     (λ c κs. search needs)
     (λ c. search needs)
-    (λ c. rw (c .before .before .put-byte .ensures, c .before .before .before .low .ensures, c .before .before .before .before .before .enum-told .given .1))
+    (λ c.
+    let c3 = c .before .before .before in
+    rw (c .before .before .put-byte .ensures, c3 .low .ensures, c3 .before .before .enum-told .given .1))
     (λ c. search needs)
-    (λ c. rw (
+    (λ c.
+    let c6 = c .before .before .before .before .before .before in
+    let c8 = c6 .before .before in
+    rw (
       c .before .before .put-byte3 .ensures,
-      c .before .before .before .before .before .before .put-byte2 .ensures,
-      c .before .before .before .before .before .before .before .before .low2 .ensures,
-      c .before .before .before .before .before .before .before .before .before .high .ensures,
-      c .before .before .before .before .before .before .before .before .before .before .enum-told2 .given .1,
+      c6 .put-byte2 .ensures,
+      c8 .low2 .ensures,
+      c8 .before .high .ensures,
+      c8 .before .before .enum-told2 .given .1,
       add-one,
     )))

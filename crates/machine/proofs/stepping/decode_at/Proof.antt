@@ -29,10 +29,19 @@ decode-at-spec =
     tie.close
     (tie.spec
     (λ c. search needs)
-    (λ c. let start = c .before .before in pc-inside (now (start .args .image)) (start .args .layout) (start .pre .0 .is) (start .args .pc) (start .pre .1 .0) .0)
+    (λ c.
+    let start = c .before .before in
+    let a = start .args in
+    pc-inside (now (a .image)) (a .layout) (start .pre .0 .is) (a .pc) (start .pre .1 .0) .0)
     (λ c. search needs)
-    (λ c. let start = c .before .before .before in index-inside (now (start .args .image)) (start .args .layout) (start .pre .0) (start .args .pc) (start .pre .1 .0))
-    (λ c. let start = c .before .before .before in index-inside (now (start .args .image)) (start .args .layout) (start .pre .0) (start .args .pc) (start .pre .1 .0))
+    (λ c.
+    let start = c .before .before .before in
+    let a = start .args in
+    index-inside (now (a .image)) (a .layout) (start .pre .0) (a .pc) (start .pre .1 .0))
+    (λ c.
+    let start = c .before .before .before in
+    let a = start .args in
+    index-inside (now (a .image)) (a .layout) (start .pre .0) (a .pc) (start .pre .1 .0))
     (λ c. search needs)
     (λ c κs. search needs)
     returns)

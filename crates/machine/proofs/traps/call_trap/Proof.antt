@@ -11,5 +11,5 @@ call-trap-spec =
     (tie.spec
     (λ c κs. search needs)
     (λ c κs. search needs)
-    (λ c. rw (c .unless .ensures, ← c .before .before .calls .ensures, c .before .if1 .taken))
-    (λ c. rw (← c .before .calls .ensures, c .if1 .left)))
+    (λ c. rw (c .unless .ensures, ← c .before .before .is-call .ensures, c .before .if1 .taken))
+    (λ c. rw (← c .before .is-call .ensures, c .if1 .left)))

@@ -30,6 +30,11 @@ store-trap-spec =
     (λ c κs. search needs)
     (λ c. search needs)
     (λ c. rw (c .enum-told .given .1))
-    (λ c. rw (c .unless .ensures, c .before .granted .ensures, c .before .before .bytes-wide .ensures, c .before .before .before .before .place .given .1))
-    (λ c. rw (c .first .ensures, c .before .under2 .ensures, c .before .before .bytes-wide2 .ensures, c .before .before .before .before .under .ensures, c .before .before .before .before .before .before .place2 .given .1))
+    (λ c.
+    let c2 = c .before .before in
+    rw (c .unless .ensures, c .before .granted .ensures, c2 .bytes-wide .ensures, c2 .before .before .place .given .1))
+    (λ c.
+    let c2 = c .before .before in
+    let c4 = c2 .before .before in
+    rw (c .first .ensures, c .before .under2 .ensures, c2 .bytes-wide2 .ensures, c4 .under .ensures, c4 .before .before .place2 .given .1))
     (λ c. rw (c .enum-told2 .given .1)))

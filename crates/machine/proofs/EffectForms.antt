@@ -1,8 +1,8 @@
 -- The forms of an effect: what an instruction pushes lies in the bytes that it adds to the stack, a call pushes the next address and nothing else,
 -- and RET pops it.
 use Prim.Native.Nat.{ℕ, _%_, _≤_}
-use mathlib.Core.Path.{_≡_, refl}
-use mathlib.Core.Bool.{Bool, true, false, cond}
+use mathlib.Core.Path.{_≡_, refl, sym}
+use mathlib.Core.Bool.{Bool, true, false, cond, true≢false}
 use mathlib.Core.List.{List}
 use native.Mathlib.Omega.{arith}
 use Rattle.stm8.specs.Effects.{bytesWide, effect, placeOf, writesBack, fallsThrough}
@@ -16,8 +16,9 @@ use Rattle.stm8.specs.declared.Flow.{Flow}
 use Rattle.stm8.specs.declared.Flow.the-variants.{Next, Branch, Jump, Call, CallRelative, Return}
 use Rattle.stm8.specs.declared.Instruction.{Instruction}
 use Rattle.stm8.specs.declared.Instruction.the-variants as I
 use Rattle.machine.specs.Computing.{computed}
+use Rattle.machine.specs.Step.{isCall}
 use Rattle.machine.specs.declared.Registers.{Registers}
 
 -- what is pushed lies in the bytes that are added
 abbrev pub PushesOwn : Place → ℕ → Type 0
@@ -26,13 +27,16 @@ PushesOwn (Direct a w) pushes = Unit {0}
 PushesOwn (OnStack f w) pushes = Unit {0}
 PushesOwn (Pushed w) pushes = bytesWide w ≤ pushes
 
--- a call stores the address after it, 16 bits
+-- a call pushes the address after it, 16 bits
+abbrev pub CallForm : ℕ → ℕ → Place → ℕ → ℕ → Type 0
+CallForm pops pushes place stored next = (pops ≡ 0) × (pushes ≡ 2) × (place ≡ Pushed Word) × (stored ≡ next % 0x10000)
+
 abbrev pub Form : Flow → ℕ → ℕ → Place → ℕ → ℕ → Type 0
 Form Next pops pushes place stored next = PushesOwn place pushes
 Form (Branch n) pops pushes place stored next = PushesOwn place pushes
 Form (Jump n) pops pushes place stored next = PushesOwn place pushes
-Form (Call a) pops pushes place stored next = (pops ≡ 0) × (pushes ≡ 2) × (place ≡ Pushed Word) × (stored ≡ next % 0x10000)
-Form (CallRelative n) pops pushes place stored next = (pops ≡ 0) × (pushes ≡ 2) × (place ≡ Pushed Word) × (stored ≡ next % 0x10000)
+Form (Call a) pops pushes place stored next = CallForm pops pushes place stored next
+Form (CallRelative n) pops pushes place stored next = CallForm pops pushes place stored next
 Form Return pops pushes place stored next = (pops ≡ 2) × (pushes ≡ 0) × (place ≡ Nowhere)
 
 operand-own : (x : Operand) (w : Width) (pushes : ℕ) → PushesOwn (placeOf x w) pushes
@@ -82,3 +86,12 @@ effect-form image memory regs next (I.Callr n) = (refl, refl, refl, refl)
 effect-form image memory regs next I.Ret = (refl, refl, refl)
 effect-form image memory regs next I.Nop = tt
 effect-form image memory regs next (I.Flag o) = tt
+
+pub call-form : (pops pushes : ℕ) (place : Place) (stored next : ℕ) (flow : Flow) → isCall flow ≡ true →
+    Form flow pops pushes place stored next → CallForm pops pushes place stored next
+call-form pops pushes place stored next Next h form = absurd (true≢false (sym h))
+call-form pops pushes place stored next (Branch n) h form = absurd (true≢false (sym h))
+call-form pops pushes place stored next (Jump n) h form = absurd (true≢false (sym h))
+call-form pops pushes place stored next (Call a) h form = form
+call-form pops pushes place stored next (CallRelative n) h form = form
+call-form pops pushes place stored next Return h form = absurd (true≢false (sym h))

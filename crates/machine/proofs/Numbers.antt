@@ -1,0 +1,154 @@
+-- Document 01's numbers: a refused step or run has its refusal's, another a trap's, 21 to 25, or 0.
+use Prim.Native.Nat.{ℕ, zero, suc, _+_, _-_, _≤_}
+use mathlib.Core.Path.{_≡_, refl, _∙_}
+use mathlib.Core.Bool.{Bool, true, false}
+use mathlib.Core.List.{List}
+use mathlib.Core.Logic.{inl, inr}
+use native.Mathlib.Omega.{arith}
+use lib.Dec.{eqb, ltb}
+use lib.ListN.{drop}
+use borrow.Author.Tests.{eqb-true, eqb-false}
+use Rattle.numbers.specs.Checks.{first}
+use Rattle.numbers.specs.Folds.{firstIn}
+use Rattle.numbers.proofs.Checking.{by-test}
+use Rattle.numbers.proofs.Numbering.{Numbered, pass, not-zero, tested, _then_, under-numbered, unless-numbered}
+use Rattle.stm8.specs.Decoding.{decoded}
+use Rattle.stm8.specs.Effects.{bytesWide, effect}
+use Rattle.stm8.specs.declared.Place.{Place}
+use Rattle.stm8.specs.declared.Place.the-variants.{Nowhere, Direct, OnStack, Pushed}
+use Rattle.stm8.specs.declared.Effect.{Effect}
+use Rattle.stm8.specs.declared.Decoded.{Decoded}
+use Rattle.stm8.specs.declared.Decoded.the-variants.{Found, Outside, Truncated}
+use Rattle.image.specs.declared.Limits.{Limits}
+use Rattle.image.specs.Access.{granted}
+use Rattle.image.specs.Image.{baseOf, codeOf}
+use Rattle.machine.specs.Step.{Result, spTrap, pcTrap, moveTrap, storeTrap, isCall, callTrap, effectTrap, made, decodedStep, stepValid}
+use Rattle.machine.specs.Step.{stepRefusal, stepped, StepNumbered}
+use Rattle.machine.specs.Run.{afterStep, noStepsLeft, ran, RunNumbered}
+use Rattle.machine.specs.declared.Registers.{Registers}
+use Rattle.machine.specs.declared.StepAnswer.{StepAnswer}
+use Rattle.machine.specs.declared.StepAnswer.the-variants.{Made, Finished, Trap, Refused}
+use Rattle.machine.specs.declared.RunAnswer.{RunAnswer}
+use Rattle.machine.specs.declared.RunAnswer.the-variants as Run
+use Rattle.machine.specs.declared.Ran.{Ran}
+use Rattle.machine.proofs.StepLaws.{step-refused, step-valid, same-refusal}
+use Rattle.machine.proofs.StepEffect.{made-step}
+use Rattle.machine.proofs.RunLaws.{refused-at-once}
+
+-- the traps
+sp-numbered : (limits : Limits) (sp : ℕ) → Numbered 21 25 (spTrap limits sp)
+unfolding spTrap
+sp-numbered limits sp = under-numbered 21 refl _ _ then under-numbered 21 refl _ _
+
+pc-numbered : (image : List ℕ) (pc : ℕ) → Numbered 21 25 (pcTrap image pc)
+unfolding pcTrap
+pc-numbered image pc = under-numbered 22 refl _ _ then under-numbered 22 refl _ _
+
+move-numbered : (limits : Limits) (sp : ℕ) (e : Effect) → Numbered 21 25 (moveTrap limits sp e)
+unfolding moveTrap
+move-numbered limits sp e = under-numbered 24 refl _ _ then under-numbered 24 refl _ _
+
+store-numbered : (limits : Limits) (sp : ℕ) (place : Place) → Numbered 21 25 (storeTrap limits sp place)
+unfolding storeTrap
+store-numbered limits sp Nowhere = pass
+store-numbered limits sp (Direct a w) = unless-numbered 25 refl (granted limits a (bytesWide w))
+store-numbered limits sp (OnStack f w) = under-numbered 25 refl _ _ then under-numbered 25 refl _ _
+store-numbered limits sp (Pushed w) = pass
+
+effect-numbered : (limits : Limits) (sp next : ℕ) (e : Effect) → Numbered 21 25 (effectTrap limits sp next e)
+unfolding effectTrap callTrap firstIn
+effect-numbered limits sp next e =
+    move-numbered limits sp e then store-numbered limits sp (e .place) then
+    tested (isCall (e .flow)) (unless-numbered 22 refl (ltb next 0x10000)) pass then pass
+
+-- a step that is not refused is made or finished, or traps
+abbrev StepUnrefused : StepAnswer → Type 0
+StepUnrefused Made = Unit {0}
+StepUnrefused Finished = Unit {0}
+StepUnrefused (Trap number) = (21 ≤ number) × (number ≤ 25)
+StepUnrefused (Refused number) = ⊥
+
+step-numbered : (refused : ℕ) → refused ≡ 0 → (answer : StepAnswer) → StepUnrefused answer → StepNumbered refused answer
+step-numbered refused valid Made h = record { refusal = λ some. absurd (some valid); trap = λ e some. absurd (some refl); none = λ e. inl refl }
+step-numbered refused valid Finished h = record { refusal = λ some. absurd (some valid); trap = λ e some. absurd (some refl); none = λ e. inr refl }
+step-numbered refused valid (Trap number) h =
+    record { refusal = λ some. absurd (some valid); trap = λ e some. h; none = λ e. let z : ⊥ = omega (arith, h .0) in absurd z }
+step-numbered refused valid (Refused number) h = absurd h
+
+module _ (image : List ℕ) (limits : Limits) (regs : Registers) (memory : List ℕ) where
+  abbrev Unrefused : Result → Type 0
+  Unrefused r = StepUnrefused (r .0 .answer)
+
+  decoded-unrefused : (d : Decoded) → Unrefused (decodedStep image limits regs memory d)
+  unfolding decodedStep made
+  decoded-unrefused Outside = (omega arith, omega arith)
+  decoded-unrefused Truncated = (omega arith, omega arith)
+  decoded-unrefused (Found i n) =
+      by-test Unrefused (eqb (effectTrap limits (regs .sp) (regs .pc + n) (effect i)) 0)
+      (λ t. tt)
+      (λ t. not-zero (effect-numbered limits (regs .sp) (regs .pc + n) (effect i)) (eqb-false _ _ t))
+
+  valid-unrefused : Unrefused (stepValid image limits regs memory)
+  unfolding stepValid
+  valid-unrefused =
+      by-test Unrefused (eqb (regs .pc) 0)
+      (λ t. tt)
+      (λ t. by-test Unrefused (eqb (first (spTrap limits (regs .sp)) (pcTrap image (regs .pc))) 0)
+      (λ u. decoded-unrefused (decoded (drop (regs .pc - baseOf image) (codeOf image))))
+      (λ u. not-zero (sp-numbered limits (regs .sp) then pc-numbered image (regs .pc)) (eqb-false _ _ u)))
+
+  step-unrefused : stepRefusal image limits memory ≡ 0 → Unrefused (stepped image limits regs memory)
+  step-unrefused valid = rw (step-valid image limits regs memory valid) valid-unrefused
+
+  pub step-number : StepNumbered (stepRefusal image limits memory) (stepped image limits regs memory .0 .answer)
+  step-number = go (eqb (stepRefusal image limits memory) 0) refl
+    where
+      go : (t : Bool) → eqb (stepRefusal image limits memory) 0 ≡ t →
+          StepNumbered (stepRefusal image limits memory) (stepped image limits regs memory .0 .answer)
+      go true t = step-numbered _ (eqb-true _ _ t) (stepped image limits regs memory .0 .answer) (step-unrefused (eqb-true _ _ t))
+      go false t =
+          rw (step-refused image limits regs memory _ refl (eqb-false _ _ t))
+          record { refusal = λ some. refl; trap = λ e some. absurd (some e); none = λ e. absurd (eqb-false _ _ t e) }
+
+-- the same of a run
+abbrev RunUnrefused : RunAnswer → Type 0
+RunUnrefused Run.Finished = Unit {0}
+RunUnrefused Run.Spent = Unit {0}
+RunUnrefused (Run.Trap number) = (21 ≤ number) × (number ≤ 25)
+RunUnrefused (Run.Refused number) = ⊥
+
+run-numbered : (refused : ℕ) → refused ≡ 0 → (answer : RunAnswer) → RunUnrefused answer → RunNumbered refused answer
+run-numbered refused valid Run.Finished h = record { refusal = λ some. absurd (some valid); trap = λ e some. absurd (some refl); none = λ e. inl refl }
+run-numbered refused valid Run.Spent h = record { refusal = λ some. absurd (some valid); trap = λ e some. absurd (some refl); none = λ e. inr refl }
+run-numbered refused valid (Run.Trap number) h =
+    record { refusal = λ some. absurd (some valid); trap = λ e some. h; none = λ e. let z : ⊥ = omega (arith, h .0) in absurd z }
+run-numbered refused valid (Run.Refused number) h = absurd h
+
+module _ (image : List ℕ) (limits : Limits) where
+  after-step : (regs : Registers) (memory : List ℕ) (answer : StepAnswer) → StepUnrefused answer → (rest : Ran × List ℕ) →
+      (answer ≡ Made → RunUnrefused (rest .0 .answer)) → RunUnrefused (afterStep answer regs memory rest .0 .answer)
+  after-step regs memory Made h rest on = on refl
+  after-step regs memory Finished h rest on = tt
+  after-step regs memory (Trap number) h rest on = h
+  after-step regs memory (Refused number) h rest on = absurd h
+
+  run-unrefused : (budget : ℕ) (regs : Registers) (memory : List ℕ) → stepRefusal image limits memory ≡ 0 →
+      RunUnrefused (ran budget image limits regs memory .0 .answer)
+  unfolding ran noStepsLeft
+  run-unrefused zero regs memory valid = rw valid (by-test RunUnrefused (eqb (regs .pc) 0) (λ t. tt) (λ t. tt))
+  run-unrefused (suc budget) regs memory valid =
+      let s = stepped image limits regs memory in
+      after-step regs memory (s .0 .answer) (step-unrefused image limits regs memory valid) (ran budget image limits (s .0 .registers) (s .1))
+      (λ m. run-unrefused budget (s .0 .registers) (s .1)
+      (same-refusal image limits memory (s .1) (made-step image limits regs memory m .changes .size) ∙ valid))
+
+  pub run-number : (budget : ℕ) (regs : Registers) (memory : List ℕ) →
+      RunNumbered (stepRefusal image limits memory) (ran budget image limits regs memory .0 .answer)
+  run-number budget regs memory = go (eqb (stepRefusal image limits memory) 0) refl
+    where
+      go : (t : Bool) → eqb (stepRefusal image limits memory) 0 ≡ t →
+          RunNumbered (stepRefusal image limits memory) (ran budget image limits regs memory .0 .answer)
+      go true t = run-numbered _ (eqb-true _ _ t) (ran budget image limits regs memory .0 .answer) (run-unrefused budget regs memory (eqb-true _ _ t))
+      go false t =
+          rw (refused-at-once budget image limits regs memory _ (refl, eqb-false _ _ t))
+          record { refusal = λ some. refl; trap = λ e some. absurd (some e); none = λ e. absurd (eqb-false _ _ t e) }
