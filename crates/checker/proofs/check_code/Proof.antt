@@ -9,8 +9,8 @@ use denote.Ref.{now}
 use Rattle.checker.proofs.check_code.Statement.{statement}
 use Rattle.checker.proofs.check_code.Tie as tie
 
-routine-starts-requires : tie.Need-routine-starts-requires
-routine-starts-requires c κs =
+routine-begins-requires : tie.Need-routine-begins-requires
+routine-begins-requires c κs =
     let c4 = c .before .before .before .before in
     let c8 = c4 .before .before .before .before in
     let valid = c8 .before .pre .0 in
@@ -24,7 +24,7 @@ sweep-routines-requires c κs =
       record {
         valid = c12 .before .before .before .pre .0;
         tables = record { plain-is = c8 .plain-lengths .ensures; after72-is = c4 .before .before .before .after-72-lengths .ensures; after90-is = c4 .before .before .after-90-lengths .ensures };
-        begins = c4 .before .routine-starts .ensures;
+        routines = c4 .before .routine-begins .ensures;
       },
       ap length (c8 .before .before .before .clear .ensures) ∙ length-replicate _ 0 ∙ c12 .before .before .before .pre .1,
     )
@@ -56,7 +56,7 @@ check-code-spec =
     (λ c κs. search needs)
     (λ c κs. search needs)
     (λ c κs. search needs)
-    routine-starts-requires
+    routine-begins-requires
     sweep-routines-requires
     verdict-of-requires
     (λ c κs. search needs)

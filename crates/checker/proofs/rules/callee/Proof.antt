@@ -11,11 +11,11 @@ use Rattle.checker.proofs.rules.callee.Statement.{statement}
 use Rattle.checker.proofs.rules.callee.Tie as tie
 
 abbrev Inv-loop : tie.InvT-loop
-Inv-loop starts base r address base' offset j₀ j =
-    (j ≤ r) × ((image : List ℕ) → Begins image starts r → beginning image offset (r - j) j ≡ beginning image offset r 0)
+Inv-loop begins base r address base' offset j₀ j =
+    (j ≤ r) × ((image : List ℕ) → Begins image begins r → beginning image offset (r - j) j ≡ beginning image offset r 0)
 
 abbrev μ-loop : tie.MeasureT-loop
-μ-loop starts base r address base' offset j₀ j = r - j
+μ-loop begins base r address base' offset j₀ j = r - j
 
 returns-2 : tie.Need-returns-2 Inv-loop μ-loop
 returns-2 c =

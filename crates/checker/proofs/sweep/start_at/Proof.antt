@@ -12,7 +12,7 @@ use Rattle.image.proofs.Layouts.{valid-bounds, base-is, code-is}
 use Rattle.checker.specs.Sweep.{refused, decodedAt, startAt}
 use Rattle.checker.specs.declared.sweep.Routine.{Routine}
 use Rattle.checker.specs.declared.sweep.Progress.{Progress}
-use Rattle.checker.proofs.Starts.{start-refused, start-reached, found-inside}
+use Rattle.checker.proofs.Starts.{start-refused, start-reached, found-in-routine}
 use borrow.Author.Needs.{needs}
 use native.Mathlib.Omega.{arith}
 use denote.Ref.{now}
@@ -79,13 +79,13 @@ instruction-at-requires c κs =
     let setting = c12 .before .before .before .pre .0 in
     let ready = c12 .before .before .before .pre .1 in
     let bounds = valid-bounds _ _ _ (setting .valid) in
-    let inside = found-inside (now (start .image)) (start .r) (start .p .at) _ _ _ (c4 .before .decode-at .ensures) (c .before .before .before .d .given .1) in (
+    let inside = found-in-routine (now (start .image)) (start .r) (start .p .at) _ _ _ (c4 .before .decode-at .ensures) (c .before .before .before .d .given .1) in (
       omega (arith, ready .index, bounds .count .1),
       omega (arith, ready .start, ready .at, ready .end, bounds .size .1),
       omega (arith, ready .end, bounds .size .1),
       omega (arith, inside .1, ready .at, ready .end, bounds .size .1),
       omega (arith, ready .count, ready .at, ready .end, bounds .size .1),
-      omega (arith, c .less .ensures, c4 .before .before .larger .ensures, c8 .before .before .before .wide .ensures .1, ready .falls),
+      omega (arith, c .less .ensures, c4 .before .before .larger .ensures, c8 .before .before .before .wide .ensures .1, ready .falling),
     )
 
 same-length-2 : tie.Need-same-length-2
@@ -107,7 +107,7 @@ returns-3 c =
     let ready = c16 .before .before .pre .1 in
     reached c8 _ (c .before .before .before .less .ensures) ∙
     ap (λ d. decodedAt (now (start .image)) (start .limits) (now (start .needs)) (start .r) (set (now (start .marks)) (start .p .at) (c8 .before .larger .result)) (start .p) (c .before .before .before .less .result) d) (c4 .before .before .d .given .1) ∙
-    c .before .before .instruction-at .ensures (now (start .image)) (base-is _ _ _ (setting .valid)) (λ k h. setting .begins k (omega (arith, ready .index)))
+    c .before .before .instruction-at .ensures (now (start .image)) (base-is _ _ _ (setting .valid)) (λ k h. setting .routines k (omega (arith, ready .index)))
 
 pub start-at-spec : {M : Type 1} → statement M
 start-at-spec =

@@ -5,17 +5,17 @@ use native.Mathlib.Nat.{sub-zero}
 use Rattle.image.proofs.Measuring.{start-zero, start-inside}
 use Rattle.image.proofs.Layouts.{valid-bounds, count-is, size-is}
 use Rattle.checker.specs.declared.sweep.Sweep.{Sweep}
-use Rattle.checker.proofs.Routines.{Going, going-turns, routines-last, routines-done, zeros-at}
+use Rattle.checker.proofs.Routines.{RoutinesLeft, routines-left-turns, routines-last, routines-done, zeros-at}
 use native.Mathlib.Omega.{arith}
 use denote.Ref.{now}
 use Rattle.checker.proofs.sweep.sweep_routines.Statement.{statement}
 use Rattle.checker.proofs.sweep.sweep_routines.Tie as tie
 
 abbrev Inv-loop : tie.InvT-loop
-Inv-loop image limits layout plain after-72 after-90 starts marks₀ s₀ marks s = Going image limits layout marks₀ marks s
+Inv-loop image limits layout plain after-72 after-90 begins marks₀ s₀ marks s = RoutinesLeft image limits layout marks₀ marks s
 
 abbrev μ-loop : tie.MeasureT-loop
-μ-loop image limits layout plain after-72 after-90 starts marks₀ s₀ marks s = layout .count - s .index
+μ-loop image limits layout plain after-72 after-90 begins marks₀ s₀ marks s = layout .count - s .index
 
 loop-holds : tie.Need-loop-holds Inv-loop μ-loop
 loop-holds c =
@@ -73,7 +73,7 @@ loop-again c =
     let c8 = c4 .before .before .before .before in
     let c12 = c8 .before .before .before .before in
     rw (c .closed .ensures)
-    (going-turns _ _ _ _ _ _ (c8 .before .before .loop .inv) (c4 .before .before .before .if1 .taken) (count-is _ _ _ (c12 .before .pre .0 .valid)) _ _ (c4 .before .sweep-routine .ensures .0) (c4 .before .sweep-routine .ensures .1) (c .before .if2 .left)
+    (routines-left-turns _ _ _ _ _ _ (c8 .before .before .loop .inv) (c4 .before .before .before .if1 .taken) (count-is _ _ _ (c12 .before .pre .0 .valid)) _ _ (c4 .before .sweep-routine .ensures .0) (c4 .before .sweep-routine .ensures .1) (c .before .if2 .left)
     (c4 .before .sweep-routine .kept .1 .1 .1 .1 .1 .1 .1 .0))
 
 same-length-2 : tie.Need-same-length-2 Inv-loop μ-loop
