@@ -11,7 +11,7 @@ use Rattle.image.specs.Image.{countOf, startOf, endOf}
 use Rattle.image.specs.declared.Limits.{Limits}
 use Rattle.image.specs.declared.Layout.{Layout}
 use Rattle.image.proofs.Measuring.{start-next}
-use Rattle.checker.specs.Sweep.{startAt, startsFrom, routineSwept, closed, stopped, routinesFrom, begun}
+use Rattle.checker.specs.Sweep.{startAt, startsFrom, entered, routineSwept, closed, stopped, routinesFrom, begun}
 use Rattle.checker.specs.Internal.{Begins, Between, Ended}
 use Rattle.checker.specs.declared.sweep.Routine.{Routine}
 use Rattle.checker.specs.declared.sweep.Progress.{Progress}
@@ -37,7 +37,8 @@ module _ (image : List ℕ) (limits : Limits) (needs : List ℕ) (r : Routine) (
     starts-turn (suc fuel) enough none on = (fuel, omega arith, rw (lt-ltb (p .at) (r .end) h, e, eq-eqb (q .refusal) 0 none))
 
 -- the invariant of the loop over starts: what is left of a routine gives what the whole routine gives
-pub record StartsLeft (image : List ℕ) (limits : Limits) (needs : List ℕ) (r : Routine) (marks₀ : List ℕ) (p₀ : Progress) (marks : List ℕ) (p : Progress) : Type 0 where
+pub record StartsLeft (image : List ℕ) (limits : Limits) (needs : List ℕ) (r : Routine)
+    (marks₀ : List ℕ) (p₀ : Progress) (marks : List ℕ) (p : Progress) : Type 0 where
   pub fuel : ℕ
   pub enough : r .end ≤ p .at + fuel
   pub same : startsFrom fuel image limits needs r marks p ≡ startsFrom (r .end - r .start) image limits needs r marks₀ p₀
@@ -49,24 +50,45 @@ pub record StartsLeft (image : List ℕ) (limits : Limits) (needs : List ℕ) (r
   pub cells : length marks ≡ length marks₀
 
 module _ (image : List ℕ) (limits : Limits) (needs : List ℕ) (r : Routine) (marks₀ : List ℕ) (p₀ : Progress) where
-  pub starts-left-begin : r .start < r .end → p₀ .at ≡ r .start → p₀ .falling ≡ 1 → p₀ .need ≡ 0 → p₀ .count ≤ r .start → StartsLeft image limits needs r marks₀ p₀ marks₀ p₀
-  starts-left-begin some at falling need count =
-      record { fuel = r .end - r .start; enough = omega arith; same = refl; low = omega arith; high = omega arith; falling = omega arith; need = omega arith; count = omega arith; cells = refl }
+  pub starts-left-begin : (count : ℕ) → p₀ ≡ entered r count → r .start < r .end → count ≤ r .start → StartsLeft image limits needs r marks₀ p₀ marks₀ p₀
+  starts-left-begin count e some few =
+      rw e
+      (record {
+        fuel = r .end - r .start;
+        enough = omega arith;
+        same = refl;
+        low = omega arith;
+        high = omega arith;
+        falling = omega arith;
+        need = omega arith;
+        count = omega arith;
+        cells = refl;
+      })
 
   pub starts-left-turn : (marks : List ℕ) (p : Progress) → StartsLeft image limits needs r marks₀ p₀ marks p → p .at < r .end →
       (q : Progress) (marks′ : List ℕ) → startAt image limits needs r marks p ≡ (q, marks′) → AfterStart r marks marks′ p q → q .refusal ≡ 0 →
       StartsLeft image limits needs r marks₀ p₀ marks′ q
   starts-left-turn marks p s h q marks′ e w none =
       let t = starts-turn image limits needs r marks p h q marks′ e (s .fuel) (s .enough) none (w .on none) in
-      record { fuel = t .0; enough = t .1; same = sym (t .2) ∙ s .same; low = omega (arith, s .low, w .low); high = w .high; falling = w .falling; need = w .need; count = w .count; cells = w .cells ∙ s .cells }
+      record {
+        fuel = t .0;
+        enough = t .1;
+        same = sym (t .2) ∙ s .same;
+        low = omega (arith, s .low, w .low);
+        high = w .high;
+        falling = w .falling;
+        need = w .need;
+        count = w .count;
+        cells = w .cells ∙ s .cells;
+      }
 
 -- a routine by its offsets
-pub routine-by : (image : List ℕ) (limits : Limits) (marks : List ℕ) (s : Sweep) (start end : ℕ) → start ≡ startOf image (s .index) → end ≡ endOf image (s .index) →
+pub routine-by : (image : List ℕ) (limits : Limits) (marks : List ℕ) (s : Sweep) (start end : ℕ) (p : Progress) →
+    start ≡ startOf image (s .index) → end ≡ endOf image (s .index) → p ≡ entered (record { index = s .index; start = start; end = end }) (s .count) →
     routineSwept image limits marks s ≡
-    startsFrom (end - start) image limits (s .needs) (record { index = s .index; start = start; end = end }) marks
-    (record { refusal = 0; at = start; falling = 1; need = 0; count = s .count })
+    startsFrom (end - start) image limits (s .needs) (record { index = s .index; start = start; end = end }) marks p
 unfolding routineSwept
-routine-by image limits marks s start end es ee = rw (es, ee)
+routine-by image limits marks s start end p es ee ep = rw (ep, es, ee)
 
 module _ (image : List ℕ) (limits : Limits) (marks : List ℕ) (s : Sweep) (count : ℕ) where
   pub routines-done : count ≤ s .index → routinesFrom (count - s .index) image limits marks s ≡ (s, marks)
@@ -78,7 +100,8 @@ module _ (image : List ℕ) (limits : Limits) (marks : List ℕ) (s : Sweep) (co
     unfolding routinesFrom
     routines-last some = let more : count - s .index ≡ suc (count - (s .index + 1)) = omega arith in rw (more, e, ne-eqb (p .refusal) 0 some)
 
-    pub routines-turn : p .refusal ≡ 0 → routinesFrom (count - s .index) image limits marks s ≡ routinesFrom (count - (s .index + 1)) image limits marks′ (closed s p)
+    pub routines-turn : p .refusal ≡ 0 →
+        routinesFrom (count - s .index) image limits marks s ≡ routinesFrom (count - (s .index + 1)) image limits marks′ (closed s p)
     unfolding routinesFrom
     routines-turn none = let more : count - s .index ≡ suc (count - (s .index + 1)) = omega arith in rw (more, e, eq-eqb (p .refusal) 0 none)
 
@@ -107,9 +130,10 @@ pub record RoutinesLeft (image : List ℕ) (limits : Limits) (layout : Layout) (
   pub same : routinesFrom (layout .count - s .index) image limits marks s ≡ routinesFrom (countOf image) image limits marks₀ begun
   pub between : Between image layout marks s
 
-pub routines-left-turns : (image : List ℕ) (limits : Limits) (layout : Layout) (marks₀ marks : List ℕ) (s : Sweep) → RoutinesLeft image limits layout marks₀ marks s →
-    s .index < layout .count → layout .count ≡ countOf image →
-    (p : Progress) (marks′ : List ℕ) → routineSwept image limits marks s ≡ (p, marks′) → Ended (endOf image (s .index)) (s .index) p → p .refusal ≡ 0 → length marks′ ≡ length marks →
+pub routines-left-turns : (image : List ℕ) (limits : Limits) (layout : Layout) (marks₀ marks : List ℕ) (s : Sweep) →
+    RoutinesLeft image limits layout marks₀ marks s → s .index < layout .count → layout .count ≡ countOf image →
+    (p : Progress) (marks′ : List ℕ) → routineSwept image limits marks s ≡ (p, marks′) → Ended (endOf image (s .index)) (s .index) p →
+    p .refusal ≡ 0 → length marks′ ≡ length marks →
     RoutinesLeft image limits layout marks₀ marks′ (closed s p)
 routines-left-turns image limits layout marks₀ marks s g h ec p marks′ e ended none cells =
     record {

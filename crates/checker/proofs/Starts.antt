@@ -54,7 +54,8 @@ module _ (image : List ℕ) (limits : Limits) (needs : List ℕ) (r : Routine) (
     unfolding instructionAt
     found-moved none base a eb ea x marks′ ex em = instruction-found depth n i e is ∙ rw (← check, none, ex, em, eb, ea)
 
-  module _ (mark a b k : ℕ) (em : mark ≡ getD marks (p .at) 0) (ea : a ≡ reachCheck (p .falling) mark) (eb : b ≡ agreeCheck (p .falling) mark) (ek : k ≡ first a b) where
+  module _ (mark a b k : ℕ) (em : mark ≡ getD marks (p .at) 0)
+      (ea : a ≡ reachCheck (p .falling) mark) (eb : b ≡ agreeCheck (p .falling) mark) (ek : k ≡ first a b) where
     pub start-refused : (k ≡ 0 → ⊥) → (x : Progress) → x ≡ refused p k → startAt image limits needs r marks p ≡ (x, marks)
     unfolding startAt
     start-refused some x ex = rw (← em, ← ea, ← eb, ← ek, ne-eqb k 0 some, ex)
@@ -100,13 +101,23 @@ call-need-bound image needs r next depth Return below = omega arith
 
 module _ (image : List ℕ) (limits : Limits) (layout : Layout) (needs : List ℕ) (r : Routine) (marks : List ℕ) (p : Progress)
     (ready : Ready layout marks r p) (below : NeedsBelow needs (r .index)) (q : Progress) (marks′ : List ℕ) where
-  refused-after : (k : ℕ) → (k ≡ 0 → ⊥) → (marks₁ : List ℕ) → length marks₁ ≡ length marks → _≡_ {A = Progress × List ℕ} (refused p k, marks₁) (q, marks′) → AfterStart r marks marks′ p q
+  refused-after : (k : ℕ) → (k ≡ 0 → ⊥) → (marks₁ : List ℕ) → length marks₁ ≡ length marks →
+      _≡_ {A = Progress × List ℕ} (refused p k, marks₁) (q, marks′) → AfterStart r marks marks′ p q
   refused-after k some marks₁ same e =
       subst (λ (x : Progress × List ℕ). AfterStart r marks (x .1) p (x .0)) e
-      record { low = omega arith; high = omega (arith, ready .at); falling = ready .falling; need = ready .need; count = ready .count; on = λ none. absurd (some none); cells = same }
+      record {
+        low = omega arith;
+        high = omega (arith, ready .at);
+        falling = ready .falling;
+        need = ready .need;
+        count = ready .count;
+        on = λ none. absurd (some none);
+        cells = same;
+      }
 
   moved-after : (depth n : ℕ) (e : Effect) → (0 < n) × (n ≤ r .end - p .at) → depthCheck e depth ≡ 0 → (marks₁ : List ℕ) → length marks₁ ≡ length marks →
-      _≡_ {A = Progress × List ℕ} (moved image needs r p depth n e, targeted (baseOf image) marks₁ (p .at + n) (after e depth + 1) (e .flow)) (q, marks′) → AfterStart r marks marks′ p q
+      _≡_ {A = Progress × List ℕ} (moved image needs r p depth n e, targeted (baseOf image) marks₁ (p .at + n) (after e depth + 1) (e .flow)) (q, marks′) →
+      AfterStart r marks marks′ p q
   unfolding moved
   moved-after depth n e inside check marks₁ same eq =
       let deep = depth-passed e depth check in

@@ -4,7 +4,8 @@ ghost use mathlib.Core.List.{List};
 ghost use Prim.Native.Nat.{ℕ, _+_, _-_, _≤_};
 ghost use Rattle.stm8.specs.Effects.{relative as relativeTo};
 ghost use Rattle.image.specs.Image.{baseOf};
-ghost use Rattle.checker.specs.Sweep.{reachCheck, agreeCheck, insideCheck, returnCheck, depthCheck, storeCheck, jumpCheck, callee as calleeOf, flowCheck, offEndCheck, instructionCheck};
+ghost use Rattle.checker.specs.Sweep.{reachCheck, agreeCheck, insideCheck, returnCheck, depthCheck, storeCheck, jumpCheck};
+ghost use Rattle.checker.specs.Sweep.{callee as calleeOf, flowCheck, offEndCheck, instructionCheck};
 ghost use Rattle.checker.specs.Internal.{Begins, called};
 use crate::depth::after;
 use crate::depth::falls;
@@ -69,7 +70,8 @@ fn return_check(flow: Flow, depth: usize) -> u8
     }
 }
 
-// 11 where depth leaves 0 to 255, too.
+// 11 where depth leaves 0 to 255, too. Before an instruction it never does, since 11 refuses whatever would take it there: to test it here spares
+// an invariant over all marks.
 fn depth_check(e: Effect, depth: usize) -> u8
     requires { ⌜ depth ≤ 65535 ⌝ }
     ensures { λ r. ⌜ r ≡ depthCheck e depth ⌝ }

@@ -7,7 +7,8 @@ ghost use lib.ListN.{length};
 ghost use Rattle.stm8.specs.declared.Decoded.the-variants.{Found};
 ghost use Rattle.image.specs.Image.{baseOf, countOf, endOf};
 ghost use Rattle.checker.specs.Depth.{falls as fallsBy, after as afterOf};
-ghost use Rattle.checker.specs.Sweep.{callNeed, targeted, refused as refusedWith, moved as movedBy, decodedAt, startAt, routineSwept, closed as closedAt, stopped as stoppedAt, routinesFrom, begun};
+ghost use Rattle.checker.specs.Sweep.{callNeed, targeted, refused as refusedWith, moved as movedBy, decodedAt, startAt};
+ghost use Rattle.checker.specs.Sweep.{entered as enteredAt, routineSwept, closed as closedAt, stopped as stoppedAt, routinesFrom, begun};
 ghost use Rattle.checker.specs.Internal.{Setting, Begins, called, Ready, Between, Ended, Swept};
 use crate::decoding::decode_at;
 use crate::depth::after;
@@ -206,6 +207,19 @@ fn start_at(
     )
 }
 
+// A routine's first byte is always reached, at depth 0.
+fn entered(r: Routine, count: usize) -> Progress
+    ensures { λ x. ⌜ x ≡ enteredAt r count ⌝ }
+{
+    Progress {
+        refusal: 0,
+        at: r.start,
+        falling: 1,
+        need: 0,
+        count,
+    }
+}
+
 // The starts of the next routine, to its end or to the first refusal.
 fn sweep_routine(
     image: &[u8],
@@ -229,13 +243,7 @@ fn sweep_routine(
         start: s.at,
         end,
     };
-    let mut p = Progress {
-        refusal: 0,
-        at: s.at,
-        falling: 1,
-        need: 0,
-        count: s.count,
-    };
+    let mut p = entered(r, s.count);
     while p.at < end {
         p = start_at(
             image,

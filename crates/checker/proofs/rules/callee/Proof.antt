@@ -19,25 +19,32 @@ abbrev μ-loop : tie.MeasureT-loop
 
 returns-2 : tie.Need-returns-2 Inv-loop μ-loop
 returns-2 c =
-    let c4 = c .before .before .before .before in (
+    let c4 = c .before .before .before .before in
+    let inside = c .before .before .before .loop-test .taken in (
       λ image e begins.
-          let here = c .before .wide .ensures .0 ∙ begins _ (c .before .before .before .loop-test .taken) in
-          sym (beginning-stop image _ _ _ _ (c .before .before .before .loop-test .taken) here (c .if2 .taken)) ∙ c4 .loop .inv .1 image begins ∙ sym (callee-above image _ _ _ e (c4 .before .if1 .left)),
+          let here = c .before .wide .ensures .0 ∙ begins _ inside in
+          sym (beginning-stop image _ _ _ _ inside here (c .if2 .taken)) ∙ c4 .loop .inv .1 image begins ∙
+          sym (callee-above image _ _ _ e (c4 .before .if1 .left)),
       omega arith,
     )
 
 loop-again : tie.Need-loop-again Inv-loop μ-loop
 loop-again c =
-    let c4 = c .before .before .before .before in (
+    let c4 = c .before .before .before .before in
+    let inside = c .before .before .before .loop-test .taken in (
       omega arith,
       λ image begins.
-          let here = c .before .wide .ensures .0 ∙ begins _ (c .before .before .before .loop-test .taken) in
-          sym (beginning-more image _ _ _ _ (c .before .before .before .loop-test .taken) here (c .if2 .left)) ∙ c4 .loop .inv .1 image begins,
+          let here = c .before .wide .ensures .0 ∙ begins _ inside in
+          sym (beginning-more image _ _ _ _ inside here (c .if2 .left)) ∙ c4 .loop .inv .1 image begins,
     )
 
 returns-3 : tie.Need-returns-3 Inv-loop μ-loop
 returns-3 c =
-    (λ image e begins. sym (beginning-done image _ _ _ (c .loop-test .left)) ∙ c .before .loop .inv .1 image begins ∙ sym (callee-above image _ _ _ e (c .before .before .if1 .left)), omega arith)
+    let above = c .before .before .if1 .left in (
+      λ image e begins.
+          sym (beginning-done image _ _ _ (c .loop-test .left)) ∙ c .before .loop .inv .1 image begins ∙ sym (callee-above image _ _ _ e above),
+      omega arith,
+    )
 
 pub callee-spec : {M : Type 1} → statement M
 callee-spec =
