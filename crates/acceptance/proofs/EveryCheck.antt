@@ -25,8 +25,8 @@ use Rattle.checker.specs.Check.{swept, verdict, codeMarks, codeChecked, checked
 use Rattle.checker.specs.declared.sweep.Sweep.{Sweep}
 use Rattle.checker.specs.declared.Verdict.{Verdict}
 use Rattle.checker.specs.declared.Verdict.the-variants.{Accepted, Refused}
+use Rattle.checker.proofs.Routines.{zeros-at}
 use Rattle.acceptance.specs.Acceptance.{RefusedMarks, PastCode, RefusedAs}
-use Rattle.acceptance.proofs.WholeCode.{zeros}
 use Rattle.acceptance.proofs.RefusalNumbers.{sweep-number, sweep-size}
 use Rattle.acceptance.proofs.Outcomes.{by-outcome}
 
@@ -66,7 +66,7 @@ module _ (image : List ℕ) (limits : Limits) where
 
   code-cleared : {number offset : ℕ} → codeChecked image limits .0 ≡ Refused number offset → (o : ℕ) → getD (codeChecked image limits .1) o 0 ≡ 0
   unfolding codeChecked
-  code-cleared e o = rw e (zeros (length (swept image limits .1)) o)
+  code-cleared e o = rw e (zeros-at (length (swept image limits .1)) o)
 
   module _ (marks : List ℕ) where
     pub refused-marks : {number offset : ℕ} → checked image limits marks .0 ≡ Refused number offset →
