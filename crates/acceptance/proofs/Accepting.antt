@@ -61,7 +61,7 @@ module _ (image : List ℕ) (limits : Limits) (marks : List ℕ) where
               layout = layout;
               routines = swept-rules image layout limits (v .0);
               needs = swept-needs image layout limits (v .0);
-              room = v .1;
+              room = omega (arith, v .1);
             };
         enough = enough;
         reported = v .2;

@@ -102,7 +102,7 @@ module _ (limits : Limits) (depth : ℕ) where
   pub store-rules : (place : Place) → storeCheck limits place depth ≡ 0 → StoreRules limits depth place
   unfolding storeCheck
   store-rules Nowhere e = tt
-  store-rules (Direct address w) e = granted-within limits address (bytesWide w) (unless-zero _ 11 e)
+  store-rules (Direct address w) e = λ k h. granted-within limits address (bytesWide w) (unless-zero _ 11 e) k (omega arith)
   store-rules (OnStack f w) e =
       let p = first-zero _ _ e in
       let low = under-zero f 1 11 (p .0) in

@@ -1,4 +1,4 @@
--- Where a direct store may go: the check, the step and the guarantee all cite this.
+-- Where a direct store may go, as a test: the check and the step cite this. The rules and the guarantee say it by `Within`, of each byte.
 use Prim.Native.Nat.{ℕ, _+_}
 use mathlib.Core.Bool.{Bool, false, cond}
 use lib.Dec.{leb}
