@@ -29,21 +29,21 @@ use Rattle.acceptance.proofs.Unique.{one-depth, one-need, one-count}
 use Rattle.acceptance.proofs.RefusalNumbers.{sweep-size}
 use Rattle.acceptance.proofs.Outcomes.{sweptOutcome, by-outcome, checked-swept}
 
--- what the verdict goes by
-module _ (image : List ℕ) (limits : Limits) (s : Sweep) where
-  accepted-verdict : {n c : ℕ} → verdict image limits s ≡ Accepted n c →
-      (s .refusal ≡ 0) × (limits .stack .low + reportedNeed image (needIn (s .needs)) ≤ limits .stack .high + 1) × (n ≡ reportedNeed image (needIn (s .needs))) × (c ≡ s .count)
-  unfolding verdict
-  accepted-verdict {n} {c} =
-      by-cond (eqb (s .refusal) 0)
-      (λ t.
-      by-cond (ltb (limits .stack .high + 1) (limits .stack .low + reportedNeed image (needIn (s .needs))))
-      (λ u e. let z : _≡_ {A = ℕ} 0 1 = cc in absurd (omega arith))
-      (λ u e.
-      let same-need : n ≡ reportedNeed image (needIn (s .needs)) = cc in
-      let same-count : c ≡ s .count = cc in
-      (eqb-true _ 0 t, ltb-false _ _ u, same-need, same-count)))
-      (λ t e. let z : _≡_ {A = ℕ} 0 1 = cc in absurd (omega arith))
+-- what a verdict of acceptance goes by
+accepted-verdict : (image : List ℕ) (limits : Limits) (s : Sweep) {n c : ℕ} → verdict image limits s ≡ Accepted n c →
+    let need = reportedNeed image (needIn (s .needs)) in
+    (s .refusal ≡ 0) × (limits .stack .low + need ≤ limits .stack .high + 1) × (n ≡ need) × (c ≡ s .count)
+unfolding verdict
+accepted-verdict image limits s {n} {c} =
+    by-cond (eqb (s .refusal) 0)
+    (λ t.
+    by-cond (ltb (limits .stack .high + 1) (limits .stack .low + reportedNeed image (needIn (s .needs))))
+    (λ u e. let z : _≡_ {A = ℕ} 0 1 = cc in absurd (omega arith))
+    (λ u e.
+    let same-need : n ≡ reportedNeed image (needIn (s .needs)) = cc in
+    let same-count : c ≡ s .count = cc in
+    (eqb-true _ 0 t, ltb-false _ _ u, same-need, same-count)))
+    (λ t e. let z : _≡_ {A = ℕ} 0 1 = cc in absurd (omega arith))
 
 module _ (image : List ℕ) (limits : Limits) (marks : List ℕ) where
   -- accepted code meets the rules
@@ -102,7 +102,7 @@ module _ (image : List ℕ) (limits : Limits) (marks : List ℕ) where
     checked-code : checked image limits marks ≡ sweptOutcome image limits marks
     checked-code = checked-swept image limits marks (rules-valid image limits (rules .areas) (rules .layout)) enough
 
-    pub rules-accepted : (count : ℕ) → StartCount image count → checked image limits marks .0 ≡ Accepted (reportedNeed image need) count
+    rules-accepted : (count : ℕ) → StartCount image count → checked image limits marks .0 ≡ Accepted (reportedNeed image need) count
     rules-accepted count counted =
         ap (λ (x : Verdict × List ℕ). x .0) checked-code ∙ code-accepted ∙
         ap (Accepted (reportedNeed image need)) (one-count (swept-count image (rules .layout) limits passes) counted)

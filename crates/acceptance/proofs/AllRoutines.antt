@@ -87,7 +87,8 @@ module _ (image : List ℕ) (layout : ImageRules image) (limits : Limits) where
   unfolding routineSwept
   routine-swept marks s inside swept z =
       one-more marks s inside swept (routineSwept image limits marks s .0) (routineSwept image limits marks s .1)
-      (routine-sound image layout limits (s .needs) (s .index) inside marks (ends-held marks s inside swept) (swept .clear) (s .count) (swept .counted) _ refl z)
+      (routine-sound image layout limits (s .needs) (s .index) inside marks (ends-held marks s inside swept)
+      (swept .clear) (s .count) (swept .counted) _ refl z)
 
   pub routines-sound : (n : ℕ) (marks : List ℕ) (s : Sweep) → s .index + n ≡ countOf image → RoutinesSwept image limits marks s →
       (x : Sweep × List ℕ) → routinesFrom n image limits marks s ≡ x → x .0 .refusal ≡ 0 →
@@ -106,8 +107,8 @@ module _ (image : List ℕ) (layout : ImageRules image) (limits : Limits) where
         routineSwept image limits marks s .0 .refusal ≡ 0
     unfolding routineSwept
     routine-passes marks s inside swept =
-        routine-complete image layout limits (s .needs) (s .index) inside marks (ends-held marks s inside swept) (swept .clear) (s .count) (swept .counted)
-        depth (rules (s .index) inside)
+        routine-complete image layout limits (s .needs) (s .index) inside marks (ends-held marks s inside swept)
+        (swept .clear) (s .count) (swept .counted) depth (rules (s .index) inside)
 
     pub routines-complete : (n : ℕ) (marks : List ℕ) (s : Sweep) → s .index + n ≡ countOf image → RoutinesSwept image limits marks s → s .refusal ≡ 0 →
         routinesFrom n image limits marks s .0 .refusal ≡ 0

@@ -179,6 +179,8 @@ module _ (image : List ℕ) (layout : ImageRules image) (limits : Limits) (needs
   unfolding moved
   agrees-after to d g =
       ⊎-elim
-      (λ m. marked-after to d (g .low) (g .high) m (mark-after image own-marks (routineOf image r) next (deep-after + 1) held (does .flow) flow-passes to))
+      (λ m.
+      marked-after to d (g .low) (g .high) m
+      (mark-after image own-marks (routineOf image r) next (deep-after + 1) held (does .flow) flow-passes to))
       (λ m. rw (m .0) (fallen-after (falls (does .flow)) refl d (m .1)))
       (g .mark)

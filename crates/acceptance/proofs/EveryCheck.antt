@@ -136,7 +136,8 @@ module _ (image : List ℕ) (limits : Limits) where
   same-verdict marks marks′ h =
       let same : ltb (length marks) (sizeOf image) ≡ ltb (length marks′) (sizeOf image) =
       by-cases (decLt (length marks) (sizeOf image))
-      (λ few. lt-ltb (length marks) (sizeOf image) few ∙
-      sym (by-cases (decLt (length marks′) (sizeOf image)) (λ l. lt-ltb (length marks′) (sizeOf image) l) (λ l. absurd (omega (arith, h .1 (omega arith))))))
+      (λ few.
+      let few′ = by-cases (decLt (length marks′) (sizeOf image)) (λ l. l) (λ l. absurd (omega (arith, h .1 (omega arith)))) in
+      lt-ltb (length marks) (sizeOf image) few ∙ sym (lt-ltb (length marks′) (sizeOf image) few′))
       (λ enough. le-ltb (length marks) (sizeOf image) (omega arith) ∙ sym (le-ltb (length marks′) (sizeOf image) (h .0 (omega arith)))) in
       verdict-by marks ∙ ap (verdictBy (validated image limits)) same ∙ sym (verdict-by marks′)

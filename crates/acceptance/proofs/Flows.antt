@@ -26,7 +26,7 @@ pub data MarkAfter (image marks : List ℕ) (r : Routine) (next mark : ℕ) (flo
       getD (targeted (baseOf image) marks next mark flow) j 0 ≡ mark → MarkAfter image marks r next mark flow j
 
 module _ (image marks : List ℕ) (r : Routine) (next mark : ℕ) where
-  pub jump-checked : {flow : Flow} {address : ℕ} → Jumps (baseOf image + next) flow address →
+  jump-checked : {flow : Flow} {address : ℕ} → Jumps (baseOf image + next) flow address →
       flowCheck image marks r next mark flow ≡ jumpCheck (baseOf image) marks r next mark address
   unfolding flowCheck
   jump-checked branches = refl

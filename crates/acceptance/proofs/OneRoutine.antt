@@ -149,8 +149,8 @@ module _ (image : List ℕ) (layout : ImageRules image) (limits : Limits) (needs
         }
 
     pub routine-sound : (x : Progress × List ℕ) →
-        startsFrom (endOf image r - startOf image r) image limits needs (routineOf image r) given (entering (routineOf image r) count) ≡ x → x .0 .refusal ≡ 0 →
-        RoutineSwept image limits needs r given (x .1) (x .0 .need) (x .0 .count)
+        startsFrom (endOf image r - startOf image r) image limits needs (routineOf image r) given (entering (routineOf image r) count) ≡ x →
+        x .0 .refusal ≡ 0 → RoutineSwept image limits needs r given (x .1) (x .0 .need) (x .0 .count)
     routine-sound x e z = swept-to-end (endOf image r - startOf image r) given (entering (routineOf image r) count) (omega arith) swept-first x e z
 
     module _ (depth : ℕ → ℕ) (rules : RoutineRules image limits depth r) where

@@ -39,7 +39,7 @@ module _ (image : List ℕ) (limits : Limits) (needs : List ℕ) (r : ℕ) where
     pub deep : max (p .falling) (getD marks (p .at) 0) ≡ d + 1
     pub checks : instructionCheck image limits (start-marked marks (p .at) d) (routineOf image r) (p .at) d n (effect i) ≡ 0
 
-  abbrev pub passed-to : List ℕ → Progress → ℕ → Instruction → ℕ → Progress × List ℕ
+  abbrev passed-to : List ℕ → Progress → ℕ → Instruction → ℕ → Progress × List ℕ
   passed-to marks p d i n = (moved image needs (routineOf image r) p d n (effect i), passed-marks image marks (p .at) d n (effect i))
 
   module _ (marks : List ℕ) (p : Progress) where
@@ -56,14 +56,17 @@ module _ (image : List ℕ) (limits : Limits) (needs : List ℕ) (r : ℕ) where
       no-refusal number marks′ some e = absurd (some (ap (λ (x : Progress × List ℕ). x .0 .refusal) e ∙ z))
 
       decoded-passed : (d : ℕ) (found : Decoded) → instructionAt image r (p .at) ≡ found →
-          reachCheck (p .falling) (getD marks (p .at) 0) ≡ 0 → agreeCheck (p .falling) (getD marks (p .at) 0) ≡ 0 → max (p .falling) (getD marks (p .at) 0) ≡ d + 1 →
+          reachCheck (p .falling) (getD marks (p .at) 0) ≡ 0 → agreeCheck (p .falling) (getD marks (p .at) 0) ≡ 0 →
+          max (p .falling) (getD marks (p .at) 0) ≡ d + 1 →
           decodedAt image limits needs (routineOf image r) (start-marked marks (p .at) d) p d found ≡ x → Passed x
       unfolding decodedAt
       decoded-passed d Outside f reach agree m = no-refusal (decodingNumber Outside) _ (λ y. omega (arith, y))
       decoded-passed d Truncated f reach agree m = no-refusal (decodingNumber Truncated) _ (λ y. omega (arith, y))
       decoded-passed d (Found i n) f reach agree m =
           by-cond (eqb (instructionCheck image limits (start-marked marks (p .at) d) (routineOf image r) (p .at) d n (effect i)) 0)
-          (λ t e. record { d = d; i = i; n = n; passes = record { found = f; reach = reach; agree = agree; deep = m; checks = eqb-true _ 0 t }; goes = e })
+          (λ t e.
+          let checks = eqb-true _ 0 t in
+          record { d = d; i = i; n = n; passes = record { found = f; reach = reach; agree = agree; deep = m; checks = checks }; goes = e })
           (λ t e. no-refusal _ _ (eqb-false _ 0 t) e)
 
       pub start-passed : startAt image limits needs (routineOf image r) marks p ≡ x → Passed x

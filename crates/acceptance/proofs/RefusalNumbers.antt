@@ -19,10 +19,10 @@ use Rattle.stm8.specs.declared.Decoded.{Decoded}
 use Rattle.stm8.specs.declared.Decoded.the-variants.{Found, Outside, Truncated}
 use Rattle.image.specs.declared.Limits.{Limits}
 use Rattle.image.specs.Image.{baseOf, countOf, sizeOf}
-use Rattle.image.specs.Validation.{refusal}
 use Rattle.checker.specs.Depth.{falls, after}
 use Rattle.checker.specs.Sweep.{reachCheck, agreeCheck, insideCheck, returnCheck, depthCheck, storeCheck, jumpCheck, callCheck, flowCheck}
-use Rattle.checker.specs.Sweep.{offEndCheck, instructionCheck, moved, decodedAt, bytesAt, startAt, startsFrom, routineOf, routineSwept, closed, routinesFrom, begun}
+use Rattle.checker.specs.Sweep.{offEndCheck, instructionCheck, moved, decodedAt, bytesAt, startAt}
+use Rattle.checker.specs.Sweep.{startsFrom, routineOf, routineSwept, closed, routinesFrom, begun}
 use Rattle.checker.specs.Check.{swept}
 use Rattle.checker.specs.declared.sweep.Routine.{Routine}
 use Rattle.checker.specs.declared.sweep.Progress.{Progress}

@@ -21,11 +21,13 @@ use Rattle.checker.specs.Check.{needIn}
 use Rattle.checker.specs.declared.sweep.Progress.{Progress}
 use Rattle.checker.proofs.Checks.{depth-passed}
 use Rattle.checker.proofs.Starts.{targeted-length}
-use Rattle.acceptance.specs.Rules.{Start, follows, Calls, Reached, fallen, jumped, InstructionRules, InstructionUse, before, behind, calling, countBelow}
+use Rattle.acceptance.specs.Rules.{Start, follows, Calls, Reached, fallen, jumped, InstructionRules}
+use Rattle.acceptance.specs.Rules.{InstructionUse, before, behind, calling, countBelow}
 use Rattle.acceptance.proofs.Starts.{found-inside, start-low, next-start}
 use Rattle.acceptance.proofs.Checks.{reached-one, entry-falls, entry-known, inside-zero, store-rules, off-end-zero}
 use Rattle.acceptance.proofs.Callees.{callee-found, callee-is, call-callee}
-use Rattle.acceptance.proofs.Flows.{call-checked, MarkAfter, unchanged, target, mark-after, known-kept, below-kept, outside-kept, jump-lands, call-need, call-need-cases}
+use Rattle.acceptance.proofs.Flows.{call-checked, MarkAfter, unchanged, target, mark-after}
+use Rattle.acceptance.proofs.Flows.{known-kept, below-kept, outside-kept, jump-lands, call-need, call-need-cases}
 use Rattle.acceptance.proofs.Counting.{count-same, count-one}
 use Rattle.acceptance.proofs.Mapping.{rules-map}
 use Rattle.acceptance.proofs.Passing.{start-marked, passed-marks, Passes}

@@ -64,14 +64,15 @@ module _ (image : List ℕ) (limits : Limits) (needs : List ℕ) (r : ℕ) where
     pub attained : (p .need ≡ 0) ⊎ Attained marks (p .need)
     pub count : p .count ≡ countBelow (marked marks) (p .at)
 
-  -- short of the routine's end the place is a start, and once it has its own mark, at depth d, no other mark is another
+  -- short of the routine's end the place is a start, and once it has its own mark, at depth d, every other one is as it was
   pub record OwnMark (marks : List ℕ) (p : Progress) (d : ℕ) : Type 0 where
     pub start : Start image r (p .at)
     pub held : endOf image r ≤ length (start-marked marks (p .at) d)
     pub own : getD (start-marked marks (p .at) d) (p .at) 0 ≡ d + 1
     pub other : (o : ℕ) → (o ≡ p .at → ⊥) → getD (start-marked marks (p .at) d) o 0 ≡ getD marks o 0
 
-  pub own-mark : {given marks : List ℕ} {p : Progress} → Swept given marks p → p .at < endOf image r → endOf image r ≤ length given → (d : ℕ) → OwnMark marks p d
+  pub own-mark : {given marks : List ℕ} {p : Progress} → Swept given marks p → p .at < endOf image r → endOf image r ≤ length given →
+      (d : ℕ) → OwnMark marks p d
   own-mark {marks = marks} {p = p} swept below long d =
       record {
         start = ⊎-elim (λ s. s) (λ e. absurd (omega arith)) (swept .place);

@@ -30,7 +30,7 @@ module _ (image : List ℕ) (limits : Limits) (needs : List ℕ) (r : Routine) (
     starts-last zero enough some = absurd (omega arith)
     starts-last (suc fuel) enough some = rw (lt-ltb (p .at) (r .end) h, e, ne-eqb (q .refusal) 0 some)
 
-    pub starts-turn : (fuel : ℕ) → r .end ≤ p .at + fuel → q .refusal ≡ 0 → p .at < q .at →
+    starts-turn : (fuel : ℕ) → r .end ≤ p .at + fuel → q .refusal ≡ 0 → p .at < q .at →
         (rest : ℕ) × (r .end ≤ q .at + rest) × (startsFrom fuel image limits needs r marks p ≡ startsFrom rest image limits needs r marks′ q)
     unfolding startsFrom
     starts-turn zero enough none on = absurd (omega arith)
@@ -100,7 +100,7 @@ module _ (image : List ℕ) (limits : Limits) (marks : List ℕ) (s : Sweep) (co
     unfolding routinesFrom
     routines-last some = let more : count - s .index ≡ suc (count - (s .index + 1)) = omega arith in rw (more, e, ne-eqb (p .refusal) 0 some)
 
-    pub routines-turn : p .refusal ≡ 0 →
+    routines-turn : p .refusal ≡ 0 →
         routinesFrom (count - s .index) image limits marks s ≡ routinesFrom (count - (s .index + 1)) image limits marks′ (closed s p)
     unfolding routinesFrom
     routines-turn none = let more : count - s .index ≡ suc (count - (s .index + 1)) = omega arith in rw (more, e, eq-eqb (p .refusal) 0 none)

@@ -23,7 +23,8 @@ use Rattle.image.specs.Image.{baseOf, codeOf}
 use Rattle.image.specs.declared.Limits.{Limits}
 use Rattle.image.specs.declared.Layout.{Layout}
 use Rattle.checker.specs.Depth.{after, falls}
-use Rattle.checker.specs.Sweep.{reachCheck, agreeCheck, depthCheck, instructionCheck, callee, callNeed, targeted, refused, moved, decodedAt, bytesAt, startAt}
+use Rattle.checker.specs.Sweep.{reachCheck, agreeCheck, depthCheck, instructionCheck}
+use Rattle.checker.specs.Sweep.{callee, callNeed, targeted, refused, moved, decodedAt, bytesAt, startAt}
 use Rattle.checker.specs.Internal.{NeedsBelow, Ready}
 use Rattle.checker.specs.declared.sweep.Routine.{Routine}
 use Rattle.checker.specs.declared.sweep.Progress.{Progress}
