@@ -10,7 +10,7 @@ use borrow.Author.Tests.{ne-eqb, eqb-true, eqb-false}
 use Rattle.numbers.specs.Checks.{first}
 use Rattle.numbers.proofs.Checking.{by-cond, by-test}
 use Rattle.numbers.proofs.Folding.{passed}
-use Rattle.stm8.specs.Decoding.{decoded}
+use Rattle.stm8.specs.Decoding.{decoded, decodingNumber}
 use Rattle.stm8.specs.Effects.{relative, effect}
 use Rattle.stm8.specs.declared.Effect.{Effect}
 use Rattle.stm8.specs.declared.Flow.{Flow}
@@ -136,8 +136,8 @@ module _ (image : List ℕ) (limits : Limits) (layout : Layout) (needs : List �
   decoded-after : (depth : ℕ) (marks₁ : List ℕ) → length marks₁ ≡ length marks → (d : Decoded) → d ≡ decoded (bytesAt image r (p .at)) →
       decodedAt image limits needs r marks₁ p depth d ≡ (q, marks′) → AfterStart r marks marks′ p q
   unfolding decodedAt instructionCheck
-  decoded-after depth marks₁ same Outside ed eq = refused-after 8 (λ z. omega arith) marks₁ same eq
-  decoded-after depth marks₁ same Truncated ed eq = refused-after 9 (λ z. omega arith) marks₁ same eq
+  decoded-after depth marks₁ same Outside ed eq = refused-after (decodingNumber Outside) (λ z. omega arith) marks₁ same eq
+  decoded-after depth marks₁ same Truncated ed eq = refused-after (decodingNumber Truncated) (λ z. omega arith) marks₁ same eq
   decoded-after depth marks₁ same (Found i n) ed eq =
       let k = instructionCheck image limits marks₁ r (p .at) depth n (effect i) in
       by-cond (eqb k 0)
