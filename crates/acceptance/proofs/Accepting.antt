@@ -6,7 +6,7 @@ use mathlib.Core.List.{List, _++_}
 use native.Mathlib.Omega.{arith}
 use lib.Dec.{eqb, ltb}
 use lib.ListN.{length, getD, drop, List·getD-append}
-use borrow.Author.Tests.{eqb-true, eq-eqb, ltb-false, le-ltb}
+use borrow.Author.Tests.{eqb-true, ltb-false}
 use Rattle.numbers.proofs.Checking.{by-cond}
 use Rattle.image.specs.declared.Limits.{Limits}
 use Rattle.image.specs.Image.{countOf, sizeOf, mainOf}
@@ -14,45 +14,36 @@ use Rattle.image.specs.Rules.{LimitsRules, ImageRules}
 use Rattle.image.proofs.Validity.{valid-rules, rules-valid}
 use Rattle.image.proofs.Layouts.{begins-before-end}
 use Rattle.image.proofs.Measuring.{end-inside}
-use Rattle.checker.specs.Check.{swept, verdict, codeChecked, checked}
-use Rattle.checker.specs.Check.{reportedNeed as needReported}
+use Rattle.checker.specs.Depth.{reportedNeed}
+use Rattle.checker.specs.Check.{swept, needIn, verdict, codeChecked, checked}
 use Rattle.checker.specs.declared.sweep.Sweep.{Sweep}
 use Rattle.checker.specs.declared.Verdict.{Verdict}
 use Rattle.checker.specs.declared.Verdict.the-variants.{Accepted}
-use Rattle.acceptance.specs.Rules.{Start, Rules, reportedNeed, StartCount}
+use Rattle.checker.proofs.Verdicts.{verdict-accepted}
+use Rattle.acceptance.specs.Rules.{Start, Rules, StartCount}
 use Rattle.acceptance.specs.Acceptance.{Acceptable, AcceptedMarks}
 use Rattle.acceptance.proofs.Starts.{start-high}
-use Rattle.acceptance.proofs.Swept.{needIn}
 use Rattle.acceptance.proofs.OneRoutine.{depthIn}
 use Rattle.acceptance.proofs.WholeCode.{not-refused, swept-rules, swept-needs, swept-marks, swept-count}
 use Rattle.acceptance.proofs.Unique.{one-depth, one-need, one-count}
 use Rattle.acceptance.proofs.RefusalNumbers.{sweep-size}
 use Rattle.acceptance.proofs.Outcomes.{sweptOutcome, by-outcome, checked-swept}
 
--- what the verdict goes by
-module _ (image : List ℕ) (limits : Limits) (s : Sweep) where
-  reported : needReported image s ≡ reportedNeed image (needIn (s .needs))
-  unfolding needReported
-  reported = refl
-
-  verdict-accepted : {n c : ℕ} → verdict image limits s ≡ Accepted n c →
-      (s .refusal ≡ 0) × (limits .stack .low + needReported image s ≤ limits .stack .high + 1) × (n ≡ needReported image s) × (c ≡ s .count)
-  unfolding verdict
-  verdict-accepted {n} {c} =
-      by-cond (eqb (s .refusal) 0)
-      (λ t.
-      by-cond (ltb (limits .stack .high + 1) (limits .stack .low + needReported image s))
-      (λ u e. let z : _≡_ {A = ℕ} 0 1 = cc in absurd (omega arith))
-      (λ u e.
-      let same-need : n ≡ needReported image s = cc in
-      let same-count : c ≡ s .count = cc in
-      (eqb-true _ 0 t, ltb-false _ _ u, same-need, same-count)))
-      (λ t e. let z : _≡_ {A = ℕ} 0 1 = cc in absurd (omega arith))
-
-  verdict-accepts : s .refusal ≡ 0 → limits .stack .low + needReported image s ≤ limits .stack .high + 1 →
-      verdict image limits s ≡ Accepted (needReported image s) (s .count)
-  unfolding verdict
-  verdict-accepts z room = rw (eq-eqb (s .refusal) 0 z, le-ltb _ _ room)
+-- what a verdict of acceptance goes by
+accepted-verdict : (image : List ℕ) (limits : Limits) (s : Sweep) {n c : ℕ} → verdict image limits s ≡ Accepted n c →
+    let need = reportedNeed image (needIn (s .needs)) in
+    (s .refusal ≡ 0) × (limits .stack .low + need ≤ limits .stack .high + 1) × (n ≡ need) × (c ≡ s .count)
+unfolding verdict
+accepted-verdict image limits s {n} {c} =
+    by-cond (eqb (s .refusal) 0)
+    (λ t.
+    by-cond (ltb (limits .stack .high + 1) (limits .stack .low + reportedNeed image (needIn (s .needs))))
+    (λ u e. let z : _≡_ {A = ℕ} 0 1 = cc in absurd (omega arith))
+    (λ u e.
+    let same-need : n ≡ reportedNeed image (needIn (s .needs)) = cc in
+    let same-count : c ≡ s .count = cc in
+    (eqb-true _ 0 t, ltb-false _ _ u, same-need, same-count)))
+    (λ t e. let z : _≡_ {A = ℕ} 0 1 = cc in absurd (omega arith))
 
 module _ (image : List ℕ) (limits : Limits) (marks : List ℕ) where
   -- accepted code meets the rules
@@ -60,8 +51,7 @@ module _ (image : List ℕ) (limits : Limits) (marks : List ℕ) where
       Acceptable image limits marks n c
   unfolding codeChecked
   code-rules areas layout enough e =
-      let v = verdict-accepted image limits (swept image limits .0) e in
-      let same = reported image limits (swept image limits .0) in
+      let v = accepted-verdict image limits (swept image limits .0) e in
       record {
         depth = depthIn (swept image limits .1);
         needs = needIn (swept image limits .0 .needs);
@@ -71,10 +61,10 @@ module _ (image : List ℕ) (limits : Limits) (marks : List ℕ) where
               layout = layout;
               routines = swept-rules image layout limits (v .0);
               needs = swept-needs image layout limits (v .0);
-              room = rw (← same) (v .1);
+              room = omega (arith, v .1);
             };
         enough = enough;
-        reported = v .2 ∙ same;
+        reported = v .2;
         counted = rw (v .3) (swept-count image layout limits (v .0));
       }
 
@@ -100,28 +90,26 @@ module _ (image : List ℕ) (limits : Limits) (marks : List ℕ) where
         (swept-rules image (rules .layout) limits passes) (rules .routines) (swept-needs image (rules .layout) limits passes) (rules .needs)
         (mainOf image) (omega (arith, rules .layout .count .0))
 
-    same-reported : needReported image (swept image limits .0) ≡ reportedNeed image need
-    same-reported =
-        let same : reportedNeed image (needIn (swept image limits .0 .needs)) ≡ reportedNeed image need = omega (arith, same-need) in
-        reported image limits (swept image limits .0) ∙ same
+    same-reported : reportedNeed image (needIn (swept image limits .0 .needs)) ≡ reportedNeed image need
+    same-reported = omega (arith, same-need)
 
     code-accepted : codeChecked image limits .0 ≡ Accepted (reportedNeed image need) (swept image limits .0 .count)
     unfolding codeChecked
     code-accepted =
-        verdict-accepts image limits (swept image limits .0) passes (rw same-reported (rules .room)) ∙
+        sym (verdict-accepted image limits (swept image limits .0) passes _ refl (rw same-reported (rules .room))) ∙
         ap (λ n. Accepted n (swept image limits .0 .count)) same-reported
 
     checked-code : checked image limits marks ≡ sweptOutcome image limits marks
     checked-code = checked-swept image limits marks (rules-valid image limits (rules .areas) (rules .layout)) enough
 
-    pub rules-accepted : (count : ℕ) → StartCount image count → checked image limits marks .0 ≡ Accepted (reportedNeed image need) count
+    rules-accepted : (count : ℕ) → StartCount image count → checked image limits marks .0 ≡ Accepted (reportedNeed image need) count
     rules-accepted count counted =
         ap (λ (x : Verdict × List ℕ). x .0) checked-code ∙ code-accepted ∙
         ap (Accepted (reportedNeed image need)) (one-count (swept-count image (rules .layout) limits passes) counted)
 
     -- the number of starts
-    start-count : (count : ℕ) × StartCount image count
-    start-count = (swept image limits .0 .count, swept-count image (rules .layout) limits passes)
+    some-count : (count : ℕ) × StartCount image count
+    some-count = (swept image limits .0 .count, swept-count image (rules .layout) limits passes)
 
     -- the marks
     code-marks : codeChecked image limits .1 ≡ swept image limits .1
@@ -158,7 +146,7 @@ module _ (image : List ℕ) (limits : Limits) (marks : List ℕ) where
   pub accept-complete : (depth need : ℕ → ℕ) → Rules image limits depth need → sizeOf image ≤ length marks →
       (count : ℕ) × StartCount image count × (checked image limits marks .0 ≡ Accepted (reportedNeed image need) count)
   accept-complete depth need rules enough =
-      let c = start-count depth need rules enough in
+      let c = some-count depth need rules enough in
       (c .0, c .1, rules-accepted depth need rules enough (c .0) (c .1))
 
   -- and both

@@ -3,11 +3,12 @@ use Prim.Native.Nat.{ℕ, zero, suc, _+_, _<_, _≤_}
 use mathlib.Core.Path.{_≡_, refl, sym, ap, _∙_, subst}
 use mathlib.Core.Logic.{inl, inr, by-cases}
 use mathlib.Core.List.{List}
-use native.Mathlib.Decide.{ℕ-discrete, decLt}
+use native.Mathlib.Decide.{decLt}
 use native.Mathlib.Omega.{arith}
 use lib.Dec.{eqb}
 use lib.ListN.{length, getD, length-set}
 use lib.Seq.{getD-set-same, getD-set-other}
+use borrow.Author.Count.{below-more}
 use borrow.Author.Tests.{eqb-true, eqb-false, eq-eqb}
 use Rattle.numbers.proofs.Checking.{by-cond}
 use Rattle.image.specs.declared.Limits.{Limits}
@@ -16,12 +17,13 @@ use Rattle.image.specs.Rules.{ImageRules}
 use Rattle.image.proofs.Layouts.{begins-before-end}
 use Rattle.image.proofs.Measuring.{start-next, end-inside, end-before}
 use Rattle.checker.specs.Sweep.{routineSwept, closed, routinesFrom}
+use Rattle.checker.specs.Check.{needIn}
 use Rattle.checker.specs.declared.sweep.Progress.{Progress}
 use Rattle.checker.specs.declared.sweep.Sweep.{Sweep}
 use Rattle.acceptance.specs.Rules.{Start, RoutineRules, Use, Greatest, countBelow}
 use Rattle.acceptance.proofs.Starts.{start-high}
 use Rattle.acceptance.proofs.Mapping.{routine-map, greatest-map}
-use Rattle.acceptance.proofs.Swept.{marked, needIn}
+use Rattle.acceptance.proofs.Swept.{marked}
 use Rattle.acceptance.proofs.OneRoutine.{depthIn, RoutineSwept, routine-sound, routine-complete}
 
 -- the routines before one are swept with no refusal
@@ -50,10 +52,6 @@ module _ (image : List ℕ) (layout : ImageRules image) (limits : Limits) where
     own-need : needIn (closed s p .needs) (s .index) ≡ p .need
     own-need = getD-set-same (s .needs) (s .index) (p .need) 0 (omega (arith, swept .held, layout .count .1))
 
-    by-routine : (P : ℕ → Type 0) (r : ℕ) → r < s .index + 1 → (r < s .index → P r) → P (s .index) → P r
-    by-routine P r below earlier own =
-        by-cases (ℕ-discrete r (s .index)) (λ e. subst P (sym e) own) (λ ne. earlier (omega arith))
-
     one-more : RoutinesSwept image limits marks′ (closed s p)
     one-more =
         let next = start-next image (s .index) inside in
@@ -61,18 +59,18 @@ module _ (image : List ℕ) (layout : ImageRules image) (limits : Limits) where
           size = g .size ∙ swept .size;
           held = length-set (s .needs) (s .index) (p .need) ∙ swept .held;
           clear = λ o low. g .outside o (inr (omega arith)) ∙ swept .clear o (omega (arith, begins-before-end image layout (s .index) inside));
-          rules = λ r below.
-              by-routine (λ r. RoutineRules image limits (depthIn marks′) r) r below
-              (λ l. routine-map (λ o st. rw (same-mark r o l st)) (swept .rules r l))
+          rules =
+              below-more (λ r. RoutineRules image limits (depthIn marks′) r) (s .index)
+              (λ r l. routine-map (λ o st. rw (same-mark r o l st)) (swept .rules r l))
               (g .rules);
-          most = λ r below.
-              by-routine (λ r. Greatest (Use image (depthIn marks′) (needIn (closed s p .needs)) r) (needIn (closed s p .needs) r)) r below
-              (λ l. rw (← same-need r l) (greatest-map (λ o st. rw (same-mark r o l st)) (λ j b. same-need j (omega arith)) (swept .most r l)))
+          most =
+              below-more (λ r. Greatest (Use image (depthIn marks′) (needIn (closed s p .needs)) r) (needIn (closed s p .needs) r)) (s .index)
+              (λ r l. rw (← same-need r l) (greatest-map (λ o st. rw (same-mark r o l st)) (λ j b. same-need j (omega arith)) (swept .most r l)))
               (rw own-need (greatest-map (λ o st. refl) same-need (g .most)));
           starts = λ r below.
-              by-routine (λ r. (o : ℕ) → Start image r o → 1 ≤ getD marks′ o 0) r below
-              (λ l o st. rw (← same-mark r o l st) (swept .starts r l st))
-              (λ o st. g .starts st) _;
+              below-more (λ r. (o : ℕ) → Start image r o → 1 ≤ getD marks′ o 0) (s .index)
+              (λ r l o st. rw (← same-mark r o l st) (swept .starts r l st))
+              (λ o st. g .starts st) r below _;
           exact = λ o high m.
               by-cases (decLt o (startOf image (s .index)))
               (λ l. let e = swept .exact o l (rw (g .outside o (inl l)) at m) in (e .0, omega (arith, e .1), e .2))
@@ -89,7 +87,8 @@ module _ (image : List ℕ) (layout : ImageRules image) (limits : Limits) where
   unfolding routineSwept
   routine-swept marks s inside swept z =
       one-more marks s inside swept (routineSwept image limits marks s .0) (routineSwept image limits marks s .1)
-      (routine-sound image layout limits (s .needs) (s .index) inside marks (ends-held marks s inside swept) (swept .clear) (s .count) (swept .counted) _ refl z)
+      (routine-sound image layout limits (s .needs) (s .index) inside marks (ends-held marks s inside swept)
+      (swept .clear) (s .count) (swept .counted) _ refl z)
 
   pub routines-sound : (n : ℕ) (marks : List ℕ) (s : Sweep) → s .index + n ≡ countOf image → RoutinesSwept image limits marks s →
       (x : Sweep × List ℕ) → routinesFrom n image limits marks s ≡ x → x .0 .refusal ≡ 0 →
@@ -108,8 +107,8 @@ module _ (image : List ℕ) (layout : ImageRules image) (limits : Limits) where
         routineSwept image limits marks s .0 .refusal ≡ 0
     unfolding routineSwept
     routine-passes marks s inside swept =
-        routine-complete image layout limits (s .needs) (s .index) inside marks (ends-held marks s inside swept) (swept .clear) (s .count) (swept .counted)
-        depth (rules (s .index) inside)
+        routine-complete image layout limits (s .needs) (s .index) inside marks (ends-held marks s inside swept)
+        (swept .clear) (s .count) (swept .counted) depth (rules (s .index) inside)
 
     pub routines-complete : (n : ℕ) (marks : List ℕ) (s : Sweep) → s .index + n ≡ countOf image → RoutinesSwept image limits marks s → s .refusal ≡ 0 →
         routinesFrom n image limits marks s .0 .refusal ≡ 0

@@ -19,7 +19,7 @@ use Rattle.stm8.specs.declared.Place.the-variants.{Nowhere, Direct, OnStack, Pu
 use Rattle.stm8.specs.declared.Flow.{Flow}
 use Rattle.stm8.specs.declared.Flow.the-variants.{Next, Branch, Jump, Call, CallRelative, Return}
 use Rattle.stm8.specs.declared.Effect.{Effect}
-use Rattle.image.proofs.Granting.{granted-ends, ends-granted}
+use Rattle.image.proofs.Granting.{granted-within, within-granted}
 use Rattle.image.specs.declared.Limits.{Limits}
 use Rattle.checker.specs.Depth.{popped, after, falls}
 use Rattle.checker.specs.Sweep.{reachCheck, agreeCheck, insideCheck, returnCheck, depthCheck, storeCheck, jumpCheck, offEndCheck}
@@ -85,14 +85,6 @@ inside-pass marks (suc n) o h =
     inside-pass marks n (o + 1) (λ k low high. h k (omega arith) (omega arith))
 
 -- RET needs depth 0
-returned : (flow : Flow) (depth : ℕ) → returnCheck flow depth ≡ 0 → flow ≡ Return → depth ≡ 0
-returned Next depth e r = let z : _≡_ {A = ℕ} 0 1 = cc in absurd (omega arith)
-returned (Branch n) depth e r = let z : _≡_ {A = ℕ} 0 1 = cc in absurd (omega arith)
-returned (Jump n) depth e r = let z : _≡_ {A = ℕ} 0 1 = cc in absurd (omega arith)
-returned (Call a) depth e r = let z : _≡_ {A = ℕ} 0 1 = cc in absurd (omega arith)
-returned (CallRelative n) depth e r = let z : _≡_ {A = ℕ} 0 1 = cc in absurd (omega arith)
-returned Return depth e r = omega (arith, under-zero 0 depth 10 e)
-
 return-pass : (flow : Flow) (depth : ℕ) → (flow ≡ Return → depth ≡ 0) → returnCheck flow depth ≡ 0
 return-pass Next depth h = refl
 return-pass (Branch n) depth h = refl
@@ -102,12 +94,6 @@ return-pass (CallRelative n) depth h = refl
 return-pass Return depth h = under-pass 0 depth 11 (omega (arith, h refl))
 
 module _ (e : Effect) (depth : ℕ) where
-  pub depth-facts : depthCheck e depth ≡ 0 → (popped e ≤ depth) × (depth ≤ 255) × (after e depth ≤ 255) × (e .flow ≡ Return → depth ≡ 0)
-  unfolding depthCheck
-  depth-facts z =
-      let p = passed _ z in
-      (under-zero _ _ 10 (p .0), under-zero _ _ 10 (p .1 .0), under-zero _ _ 10 (p .1 .1 .0), returned (e .flow) depth (p .1 .1 .1 .0))
-
   pub depth-pass : popped e ≤ depth → depth ≤ 255 → after e depth ≤ 255 → (e .flow ≡ Return → depth ≡ 0) → depthCheck e depth ≡ 0
   unfolding depthCheck firstIn
   depth-pass a b c d = under-pass _ _ 11 a & under-pass _ _ 11 b & under-pass _ _ 11 c & return-pass (e .flow) depth d & refl
@@ -116,10 +102,7 @@ module _ (limits : Limits) (depth : ℕ) where
   pub store-rules : (place : Place) → storeCheck limits place depth ≡ 0 → StoreRules limits depth place
   unfolding storeCheck
   store-rules Nowhere e = tt
-  store-rules (Direct address w) e =
-      let p = granted-ends limits address (bytesWide w) (unless-zero _ 11 e) in
-      let some = wide-some w in
-      (omega arith, omega arith)
+  store-rules (Direct address w) e = λ k h. granted-within limits address (bytesWide w) (unless-zero _ 11 e) k (omega arith)
   store-rules (OnStack f w) e =
       let p = first-zero _ _ e in
       let low = under-zero f 1 11 (p .0) in
@@ -131,9 +114,7 @@ module _ (limits : Limits) (depth : ℕ) where
   pub store-pass : (place : Place) → StoreRules limits depth place → storeCheck limits place depth ≡ 0
   unfolding storeCheck
   store-pass Nowhere h = refl
-  store-pass (Direct address w) h =
-      let some = wide-some w in
-      rw (ends-granted limits address (bytesWide w) (omega arith) (omega arith)) (unless-pass 12)
+  store-pass (Direct address w) h = rw (within-granted limits address (bytesWide w) (wide-some w) h) (unless-pass 12)
   store-pass (OnStack f w) h =
       let some = wide-some w in
       under-pass f 1 12 (omega arith) & under-pass (depth + 1) (f + bytesWide w) 12 (omega arith)

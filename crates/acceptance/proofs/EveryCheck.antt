@@ -25,8 +25,8 @@ use Rattle.checker.specs.Check.{swept, verdict, codeMarks, codeChecked, checked
 use Rattle.checker.specs.declared.sweep.Sweep.{Sweep}
 use Rattle.checker.specs.declared.Verdict.{Verdict}
 use Rattle.checker.specs.declared.Verdict.the-variants.{Accepted, Refused}
+use Rattle.checker.proofs.Routines.{zeros-at}
 use Rattle.acceptance.specs.Acceptance.{RefusedMarks, PastCode, RefusedAs}
-use Rattle.acceptance.proofs.WholeCode.{zeros}
 use Rattle.acceptance.proofs.RefusalNumbers.{sweep-number, sweep-size}
 use Rattle.acceptance.proofs.Outcomes.{by-outcome}
 
@@ -66,7 +66,7 @@ module _ (image : List ℕ) (limits : Limits) where
 
   code-cleared : {number offset : ℕ} → codeChecked image limits .0 ≡ Refused number offset → (o : ℕ) → getD (codeChecked image limits .1) o 0 ≡ 0
   unfolding codeChecked
-  code-cleared e o = rw e (zeros (length (swept image limits .1)) o)
+  code-cleared e o = rw e (zeros-at (length (swept image limits .1)) o)
 
   module _ (marks : List ℕ) where
     pub refused-marks : {number offset : ℕ} → checked image limits marks .0 ≡ Refused number offset →
@@ -136,7 +136,8 @@ module _ (image : List ℕ) (limits : Limits) where
   same-verdict marks marks′ h =
       let same : ltb (length marks) (sizeOf image) ≡ ltb (length marks′) (sizeOf image) =
       by-cases (decLt (length marks) (sizeOf image))
-      (λ few. lt-ltb (length marks) (sizeOf image) few ∙
-      sym (by-cases (decLt (length marks′) (sizeOf image)) (λ l. lt-ltb (length marks′) (sizeOf image) l) (λ l. absurd (omega (arith, h .1 (omega arith))))))
+      (λ few.
+      let few′ = by-cases (decLt (length marks′) (sizeOf image)) (λ l. l) (λ l. absurd (omega (arith, h .1 (omega arith)))) in
+      lt-ltb (length marks) (sizeOf image) few ∙ sym (lt-ltb (length marks′) (sizeOf image) few′))
       (λ enough. le-ltb (length marks) (sizeOf image) (omega arith) ∙ sym (le-ltb (length marks′) (sizeOf image) (h .0 (omega arith)))) in
       verdict-by marks ∙ ap (verdictBy (validated image limits)) same ∙ sym (verdict-by marks′)

@@ -2,15 +2,18 @@
 use Prim.Native.Nat.{ℕ, _+_, _-_, _<_, _≤_}
 use mathlib.Core.Path.{_≡_, refl, sym, _∙_}
 use mathlib.Core.Logic.{_⊎_, inl, inr, ⊎-elim, by-cases}
+use mathlib.Core.Bool.{false}
 use mathlib.Core.List.{List}
 use native.Mathlib.Decide.{ℕ-discrete}
 use native.Mathlib.Omega.{arith}
-use lib.ListN.{length, getD, set, length-set}
+use lib.ListN.{length, getD, set}
 use lib.Seq.{getD-set-same, getD-set-other}
 use Rattle.stm8.specs.Effects.{relative}
+use Rattle.stm8.specs.declared.Effect.{Effect}
 use Rattle.stm8.specs.declared.Flow.{Flow}
 use Rattle.stm8.specs.declared.Flow.the-variants.{Next, Branch, Jump, Call, CallRelative, Return}
 use Rattle.image.specs.Image.{baseOf}
+use Rattle.checker.specs.Depth.{movesDepth, popped, pushed, after}
 use Rattle.checker.specs.Sweep.{jumpCheck, callCheck, flowCheck, callee, callNeed, targeted}
 use Rattle.checker.specs.declared.sweep.Routine.{Routine}
 use Rattle.acceptance.specs.Rules.{Jumps, branches, always, Calls, absolute, near}
@@ -23,7 +26,7 @@ pub data MarkAfter (image marks : List ℕ) (r : Routine) (next mark : ℕ) (flo
       getD (targeted (baseOf image) marks next mark flow) j 0 ≡ mark → MarkAfter image marks r next mark flow j
 
 module _ (image marks : List ℕ) (r : Routine) (next mark : ℕ) where
-  pub jump-checked : {flow : Flow} {address : ℕ} → Jumps (baseOf image + next) flow address →
+  jump-checked : {flow : Flow} {address : ℕ} → Jumps (baseOf image + next) flow address →
       flowCheck image marks r next mark flow ≡ jumpCheck (baseOf image) marks r next mark address
   unfolding flowCheck
   jump-checked branches = refl
@@ -39,14 +42,6 @@ module _ (image marks : List ℕ) (r : Routine) (next mark : ℕ) where
   unfolding flowCheck
   call-checked absolute = refl
   call-checked near = refl
-
-  pub target-length : (flow : Flow) → length (targeted (baseOf image) marks next mark flow) ≡ length marks
-  target-length Next = refl
-  target-length (Branch n) = length-set marks _ mark
-  target-length (Jump n) = length-set marks _ mark
-  target-length (Call a) = refl
-  target-length (CallRelative n) = refl
-  target-length Return = refl
 
   module _ (long : r .end ≤ length marks) where
     jump-change : (flow : Flow) (address : ℕ) → Jumps (baseOf image + next) flow address → flowCheck image marks r next mark flow ≡ 0 →
@@ -107,17 +102,26 @@ flow-pass image marks r next mark (Call a) j c = c _ absolute
 flow-pass image marks r next mark (CallRelative n) j c = c _ near
 flow-pass image marks r next mark Return j c = refl
 
+-- a call leaves depth unchanged
+calls-still : {next address : ℕ} {flow : Flow} → Calls next flow address → movesDepth flow ≡ false
+calls-still absolute = refl
+calls-still near = refl
+
+pub call-depth : {next address : ℕ} (e : Effect) (d : ℕ) → Calls next (e .flow) address → after e d ≡ d
+unfolding after popped pushed
+call-depth e d c = rw (calls-still c) (omega arith)
+
 -- what a call needs: depth + 2 + the need of its callee; nothing else needs anything
-module _ (image needs : List ℕ) (k next depth : ℕ) where
+module _ (image needs : List ℕ) (r next depth : ℕ) where
   pub call-need : {flow : Flow} {address : ℕ} → Calls (baseOf image + next) flow address →
-      callNeed image needs k next depth flow ≡ depth + 2 + getD needs (callee image k address) 0
+      callNeed image needs r next depth flow ≡ depth + 2 + getD needs (callee image r address) 0
   call-need absolute = refl
   call-need near = refl
 
   pub call-need-cases : (flow : Flow) →
-      (callNeed image needs k next depth flow ≡ 0)
+      (callNeed image needs r next depth flow ≡ 0)
       ⊎ ((address : ℕ) × Calls (baseOf image + next) flow address
-      × (callNeed image needs k next depth flow ≡ depth + 2 + getD needs (callee image k address) 0))
+      × (callNeed image needs r next depth flow ≡ depth + 2 + getD needs (callee image r address) 0))
   call-need-cases Next = inl refl
   call-need-cases (Branch n) = inl refl
   call-need-cases (Jump n) = inl refl

@@ -6,7 +6,8 @@ use native.Mathlib.Omega.{arith}
 use Rattle.stm8.specs.declared.Instruction.{Instruction}
 use Rattle.stm8.specs.declared.Effect.{Effect}
 use Rattle.image.specs.declared.Limits.{Limits}
-use Rattle.acceptance.specs.Rules.{Start, begins, JumpRules, InstructionRules, StartAt, RoutineRules, InstructionUse, before, behind, calling, Use, Greatest}
+use Rattle.acceptance.specs.Rules.{Start, begins, JumpRules, InstructionRules, StartAt, RoutineRules}
+use Rattle.acceptance.specs.Rules.{InstructionUse, before, behind, calling, Use, Greatest}
 
 module _ {image : List ℕ} {r : ℕ} {At At′ : ℕ → ℕ → Type 0} (f : (to d : ℕ) → At to d → At′ to d) where
   jump-map : {address depth : ℕ} → JumpRules image r At address depth → JumpRules image r At′ address depth
@@ -27,7 +28,7 @@ module _ {image : List ℕ} {r : ℕ} {At At′ : ℕ → ℕ → Type 0} (f : (
       }
 
 -- what an instruction has a routine use goes by the needs of earlier routines alone
-pub use-map : {image : List ℕ} {need need′ : ℕ → ℕ} {r next depth v : ℕ} {e : Effect} → ((j : ℕ) → j < r → need j ≡ need′ j) →
+use-map : {image : List ℕ} {need need′ : ℕ → ℕ} {r next depth v : ℕ} {e : Effect} → ((j : ℕ) → j < r → need j ≡ need′ j) →
     InstructionUse image need r next depth e v → InstructionUse image need′ r next depth e v
 use-map h before = before
 use-map h behind = behind
@@ -44,7 +45,8 @@ module _ {image : List ℕ} {depth depth′ : ℕ → ℕ} {r : ℕ} (deep : (o 
         entry = sym (deep _ begins) ∙ h .entry;
         starts = λ {o} s.
             let g = h .starts s in
-            record { instruction = g .instruction; size = g .size; found = g .found; reached = g .reached; rules = rw (deep o s) at (rules-map at-map (g .rules)) };
+            let rules = rw (deep o s) at (rules-map at-map (g .rules)) in
+            record { instruction = g .instruction; size = g .size; found = g .found; reached = g .reached; rules = rules };
       }
 
   use-of : {need need′ : ℕ → ℕ} {v : ℕ} → ((j : ℕ) → j < r → need j ≡ need′ j) → Use image depth need r v → Use image depth′ need′ r v

@@ -9,6 +9,7 @@ use borrow.Author.Tests.{eqb-true, eqb-false, eq-eqb}
 use Rattle.numbers.specs.Checks.{first}
 use Rattle.numbers.proofs.Checking.{by-cond, first-zero}
 use Rattle.numbers.proofs.Folding.{_&_}
+use Rattle.stm8.specs.Decoding.{decodingNumber}
 use Rattle.stm8.specs.Effects.{effect}
 use Rattle.stm8.specs.declared.Instruction.{Instruction}
 use Rattle.stm8.specs.declared.Effect.{Effect}
@@ -22,24 +23,24 @@ use Rattle.checker.specs.declared.sweep.Progress.{Progress}
 use Rattle.acceptance.specs.Rules.{instructionAt}
 use Rattle.acceptance.proofs.Checks.{entry-one}
 
--- the marks once a start's own depth is known, and after its instruction, of n bytes
-abbrev pub entered : List ℕ → ℕ → ℕ → List ℕ
-entered marks at d = set marks at (d + 1)
+-- the marks once a start has its own, and after its instruction, of n bytes
+abbrev pub start-marked : List ℕ → ℕ → ℕ → List ℕ
+start-marked marks at d = set marks at (d + 1)
 
 abbrev pub passed-marks : List ℕ → List ℕ → ℕ → ℕ → ℕ → Effect → List ℕ
-passed-marks image marks at d n e = targeted (baseOf image) (entered marks at d) (at + n) (after e d + 1) (e .flow)
+passed-marks image marks at d n e = targeted (baseOf image) (start-marked marks at d) (at + n) (after e d + 1) (e .flow)
 
-module _ (image : List ℕ) (limits : Limits) (needs : List ℕ) (k : ℕ) where
+module _ (image : List ℕ) (limits : Limits) (needs : List ℕ) (r : ℕ) where
   -- the start at a place of the sweep passes, at depth d
   pub record Passes (marks : List ℕ) (p : Progress) (d : ℕ) (i : Instruction) (n : ℕ) : Type 0 where
-    pub found : instructionAt image k (p .at) ≡ Found i n
-    pub reach : reachCheck (p .falls) (getD marks (p .at) 0) ≡ 0
-    pub agree : agreeCheck (p .falls) (getD marks (p .at) 0) ≡ 0
-    pub deep : max (p .falls) (getD marks (p .at) 0) ≡ d + 1
-    pub checks : instructionCheck image limits (entered marks (p .at) d) (routineOf image k) (p .at) d n (effect i) ≡ 0
+    pub found : instructionAt image r (p .at) ≡ Found i n
+    pub reach : reachCheck (p .falling) (getD marks (p .at) 0) ≡ 0
+    pub agree : agreeCheck (p .falling) (getD marks (p .at) 0) ≡ 0
+    pub deep : max (p .falling) (getD marks (p .at) 0) ≡ d + 1
+    pub checks : instructionCheck image limits (start-marked marks (p .at) d) (routineOf image r) (p .at) d n (effect i) ≡ 0
 
-  abbrev pub passed-to : List ℕ → Progress → ℕ → Instruction → ℕ → Progress × List ℕ
-  passed-to marks p d i n = (moved image needs (routineOf image k) p d n (effect i), passed-marks image marks (p .at) d n (effect i))
+  abbrev passed-to : List ℕ → Progress → ℕ → Instruction → ℕ → Progress × List ℕ
+  passed-to marks p d i n = (moved image needs (routineOf image r) p d n (effect i), passed-marks image marks (p .at) d n (effect i))
 
   module _ (marks : List ℕ) (p : Progress) where
     -- what is not refused passes
@@ -51,42 +52,45 @@ module _ (image : List ℕ) (limits : Limits) (needs : List ℕ) (k : ℕ) where
       pub goes : passed-to marks p d i n ≡ x
 
     module _ (x : Progress × List ℕ) (z : x .0 .refusal ≡ 0) where
-      not-refused : {P : Type 0} (number : ℕ) (marks′ : List ℕ) → (number ≡ 0 → ⊥) → _≡_ {A = Progress × List ℕ} (refused p number, marks′) x → P
-      not-refused number marks′ some e = absurd (some (ap (λ (x : Progress × List ℕ). x .0 .refusal) e ∙ z))
+      no-refusal : {P : Type 0} (number : ℕ) (marks′ : List ℕ) → (number ≡ 0 → ⊥) → _≡_ {A = Progress × List ℕ} (refused p number, marks′) x → P
+      no-refusal number marks′ some e = absurd (some (ap (λ (x : Progress × List ℕ). x .0 .refusal) e ∙ z))
 
-      decoded-passed : (d : ℕ) (found : Decoded) → instructionAt image k (p .at) ≡ found →
-          reachCheck (p .falls) (getD marks (p .at) 0) ≡ 0 → agreeCheck (p .falls) (getD marks (p .at) 0) ≡ 0 → max (p .falls) (getD marks (p .at) 0) ≡ d + 1 →
-          decodedAt image limits needs (routineOf image k) (entered marks (p .at) d) p d found ≡ x → Passed x
+      decoded-passed : (d : ℕ) (found : Decoded) → instructionAt image r (p .at) ≡ found →
+          reachCheck (p .falling) (getD marks (p .at) 0) ≡ 0 → agreeCheck (p .falling) (getD marks (p .at) 0) ≡ 0 →
+          max (p .falling) (getD marks (p .at) 0) ≡ d + 1 →
+          decodedAt image limits needs (routineOf image r) (start-marked marks (p .at) d) p d found ≡ x → Passed x
       unfolding decodedAt
-      decoded-passed d Outside f r a m = not-refused 8 _ (λ y. omega (arith, y))
-      decoded-passed d Truncated f r a m = not-refused 9 _ (λ y. omega (arith, y))
-      decoded-passed d (Found i n) f r a m =
-          by-cond (eqb (instructionCheck image limits (entered marks (p .at) d) (routineOf image k) (p .at) d n (effect i)) 0)
-          (λ t e. record { d = d; i = i; n = n; passes = record { found = f; reach = r; agree = a; deep = m; checks = eqb-true _ 0 t }; goes = e })
-          (λ t e. not-refused _ _ (eqb-false _ 0 t) e)
+      decoded-passed d Outside f reach agree m = no-refusal (decodingNumber Outside) _ (λ y. omega (arith, y))
+      decoded-passed d Truncated f reach agree m = no-refusal (decodingNumber Truncated) _ (λ y. omega (arith, y))
+      decoded-passed d (Found i n) f reach agree m =
+          by-cond (eqb (instructionCheck image limits (start-marked marks (p .at) d) (routineOf image r) (p .at) d n (effect i)) 0)
+          (λ t e.
+          let checks = eqb-true _ 0 t in
+          record { d = d; i = i; n = n; passes = record { found = f; reach = reach; agree = agree; deep = m; checks = checks }; goes = e })
+          (λ t e. no-refusal _ _ (eqb-false _ 0 t) e)
 
-      pub start-passed : startAt image limits needs (routineOf image k) marks p ≡ x → Passed x
+      pub start-passed : startAt image limits needs (routineOf image r) marks p ≡ x → Passed x
       unfolding startAt instructionAt bytesAt
       start-passed =
-          by-cond (eqb (first (reachCheck (p .falls) (getD marks (p .at) 0)) (agreeCheck (p .falls) (getD marks (p .at) 0))) 0)
+          by-cond (eqb (first (reachCheck (p .falling) (getD marks (p .at) 0)) (agreeCheck (p .falling) (getD marks (p .at) 0))) 0)
           (λ t e.
           let c = first-zero _ _ (eqb-true _ 0 t) in
-          let m : max (p .falls) (getD marks (p .at) 0) ≡ max (p .falls) (getD marks (p .at) 0) - 1 + 1 = omega (arith, entry-one _ _ (c .0)) in
-          decoded-passed (max (p .falls) (getD marks (p .at) 0) - 1) _ refl (c .0) (c .1) m
+          let m : max (p .falling) (getD marks (p .at) 0) ≡ max (p .falling) (getD marks (p .at) 0) - 1 + 1 = omega (arith, entry-one _ _ (c .0)) in
+          decoded-passed (max (p .falling) (getD marks (p .at) 0) - 1) _ refl (c .0) (c .1) m
           (subst
           (λ (v : ℕ).
-          decodedAt image limits needs (routineOf image k) (set marks (p .at) v) p (max (p .falls) (getD marks (p .at) 0) - 1)
-          (instructionAt image k (p .at)) ≡ x)
+          decodedAt image limits needs (routineOf image r) (set marks (p .at) v) p (max (p .falling) (getD marks (p .at) 0) - 1)
+          (instructionAt image r (p .at)) ≡ x)
           m e))
-          (λ t e. not-refused _ _ (eqb-false _ 0 t) e)
+          (λ t e. no-refusal _ _ (eqb-false _ 0 t) e)
 
     -- and what passes is not refused
     module _ (d : ℕ) (i : Instruction) (n : ℕ) (h : Passes marks p d i n) where
-      decoded-goes : decodedAt image limits needs (routineOf image k) (entered marks (p .at) d) p d (Found i n) ≡ passed-to marks p d i n
+      decoded-goes : decodedAt image limits needs (routineOf image r) (start-marked marks (p .at) d) p d (Found i n) ≡ passed-to marks p d i n
       unfolding decodedAt
       decoded-goes = rw (eq-eqb _ 0 (h .checks))
 
-      pub start-passes : startAt image limits needs (routineOf image k) marks p ≡ passed-to marks p d i n
+      pub start-passes : startAt image limits needs (routineOf image r) marks p ≡ passed-to marks p d i n
       unfolding startAt instructionAt bytesAt
       start-passes =
           let one : d + 1 - 1 ≡ d = omega arith in

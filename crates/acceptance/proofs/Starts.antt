@@ -1,19 +1,21 @@
 -- The starts of a routine lie inside it, one after the other: none inside an instruction.
 use Prim.Native.Nat.{ℕ, _+_, _-_, _<_, _≤_}
-use mathlib.Core.Path.{_≡_, sym, ap, _∙_}
+use mathlib.Core.Path.{_≡_, refl, sym, ap, _∙_}
 use mathlib.Core.Logic.{by-cases}
 use mathlib.Core.List.{List}
 use native.Mathlib.Decide.{ℕ-discrete, decLt}
 use native.Mathlib.Omega.{arith}
-use lib.ListN.{take, drop, take-append-drop, length-take}
+use lib.ListN.{take, drop, take-append-drop}
 use Rattle.numbers.specs.Lists.{Bytes}
 use Rattle.numbers.proofs.Bytes.{bytes-taken, bytes-dropped}
 use Rattle.stm8.specs.Decoding.{decoded}
 use Rattle.stm8.specs.declared.Instruction.{Instruction}
 use Rattle.stm8.specs.declared.Decoded.{Decoded}
 use Rattle.stm8.specs.declared.Decoded.the-variants.{Found}
-use Rattle.stm8.proofs.Longer.{longer, found-within}
+use Rattle.stm8.proofs.Longer.{longer}
 use Rattle.image.specs.Image.{codeOf, startOf, endOf}
+use Rattle.checker.specs.Sweep.{bytesAt, routineOf}
+use Rattle.checker.proofs.Starts.{found-in-routine}
 use Rattle.acceptance.specs.Rules.{instructionAt, Start, begins, follows}
 
 -- bytes are one instruction, of one length
@@ -22,11 +24,10 @@ same-found p q = (cc, cc)
 
 module _ (image : List ℕ) (r : ℕ) where
   pub found-inside : (o : ℕ) {n : ℕ} {i : Instruction} → instructionAt image r o ≡ Found i n → (0 < n) × (o + n ≤ endOf image r)
-  unfolding instructionAt
+  unfolding instructionAt bytesAt
   found-inside o {n} {i} f =
-      let s = take (endOf image r - o) (drop o (codeOf image)) in
-      let w = found-within s i n f in
-      (w .0, omega (arith, w, length-take (endOf image r - o) (drop o (codeOf image))))
+      let inside = found-in-routine image (routineOf image r) o _ i n refl f in
+      (inside .0, omega (arith, inside))
 
   -- the bytes after the routine do not change what stands at an offset
   pub found-in-code : Bytes (codeOf image) → (o : ℕ) {n : ℕ} {i : Instruction} →

@@ -7,7 +7,6 @@ use mathlib.Core.List.{List}
 use native.Mathlib.Decide.{ℕ-discrete, decLt}
 use native.Mathlib.Omega.{arith}
 use lib.ListN.{length, getD, length-set}
-use lib.Seq.{getD-set-same, getD-set-other}
 use borrow.Author.Tests.{lt-ltb, le-ltb}
 use Rattle.numbers.proofs.Folding.{passed}
 use Rattle.stm8.specs.Effects.{effect}
@@ -18,21 +17,26 @@ use Rattle.image.specs.Image.{baseOf, countOf, startOf, endOf}
 use Rattle.image.specs.Rules.{ImageRules}
 use Rattle.checker.specs.Depth.{after, falls}
 use Rattle.checker.specs.Sweep.{insideCheck, depthCheck, storeCheck, flowCheck, offEndCheck, instructionCheck, callee, callNeed, moved, routineOf}
+use Rattle.checker.specs.Check.{needIn}
 use Rattle.checker.specs.declared.sweep.Progress.{Progress}
-use Rattle.acceptance.specs.Rules.{Start, follows, Calls, Reached, fallen, jumped, InstructionRules, InstructionUse, before, behind, calling, countBelow}
+use Rattle.checker.proofs.Checks.{depth-passed}
+use Rattle.checker.proofs.Starts.{targeted-length}
+use Rattle.acceptance.specs.Rules.{Start, follows, Calls, Reached, fallen, jumped, InstructionRules}
+use Rattle.acceptance.specs.Rules.{InstructionUse, before, behind, calling, countBelow}
 use Rattle.acceptance.proofs.Starts.{found-inside, start-low, next-start}
-use Rattle.acceptance.proofs.Checks.{reached-one, entry-falls, entry-known, inside-zero, depth-facts, store-rules, off-end-zero}
+use Rattle.acceptance.proofs.Checks.{reached-one, entry-falls, entry-known, inside-zero, store-rules, off-end-zero}
 use Rattle.acceptance.proofs.Callees.{callee-found, callee-is, call-callee}
-use Rattle.acceptance.proofs.Flows.{call-checked, target-length, MarkAfter, unchanged, target, mark-after, known-kept, below-kept, outside-kept, jump-lands, call-need, call-need-cases}
+use Rattle.acceptance.proofs.Flows.{call-checked, MarkAfter, unchanged, target, mark-after}
+use Rattle.acceptance.proofs.Flows.{known-kept, below-kept, outside-kept, jump-lands, call-need, call-need-cases}
 use Rattle.acceptance.proofs.Counting.{count-same, count-one}
 use Rattle.acceptance.proofs.Mapping.{rules-map}
-use Rattle.acceptance.proofs.Passing.{entered, passed-marks, Passes}
-use Rattle.acceptance.proofs.Swept.{marked, needIn, Known, Done, Attained, Swept, at-start}
+use Rattle.acceptance.proofs.Passing.{start-marked, passed-marks, Passes}
+use Rattle.acceptance.proofs.Swept.{marked, Known, Done, Attained, Swept, OwnMark, own-mark}
 
-module _ (image : List ℕ) (layout : ImageRules image) (limits : Limits) (needs : List ℕ) (k : ℕ) (inside : k ≤ countOf image)
-    (given marks : List ℕ) (p : Progress) (swept : Swept image limits needs k given marks p)
-    (below : p .at < endOf image k) (long : endOf image k ≤ length given)
-    (d : ℕ) (i : Instruction) (n : ℕ) (h : Passes image limits needs k marks p d i n) where
+module _ (image : List ℕ) (layout : ImageRules image) (limits : Limits) (needs : List ℕ) (r : ℕ) (inside : r ≤ countOf image)
+    (given marks : List ℕ) (p : Progress) (swept : Swept image limits needs r given marks p)
+    (below : p .at < endOf image r) (long : endOf image r ≤ length given)
+    (d : ℕ) (i : Instruction) (n : ℕ) (h : Passes image limits needs r marks p d i n) where
   -- its effect, the next offset, the depth there; the marks with its own, and after it; and the state after it
   abbrev does : Effect
   does = effect i
@@ -44,16 +48,15 @@ module _ (image : List ℕ) (layout : ImageRules image) (limits : Limits) (needs
   deep-after = after does d
 
   abbrev own-marks : List ℕ
-  own-marks = entered marks (p .at) d
+  own-marks = start-marked marks (p .at) d
 
   abbrev marks-after : List ℕ
   marks-after = passed-marks image marks (p .at) d n does
 
   abbrev state-after : Progress
-  state-after = moved image needs (routineOf image k) p d n does
+  state-after = moved image needs (routineOf image r) p d n does
 
-  long₁ : endOf image k ≤ length own-marks
-  long₁ = rw length-set (omega (arith, swept .size))
+  open OwnMark (own-mark image limits needs r swept below long d) using (start, held, own, other)
 
   check-inside : insideCheck own-marks (n - 1) (p .at + 1) ≡ 0
   unfolding instructionCheck
@@ -67,35 +70,26 @@ module _ (image : List ℕ) (layout : ImageRules image) (limits : Limits) (needs
   unfolding instructionCheck
   check-store = passed _ (h .checks) .1 .1 .0
 
-  check-flow : flowCheck image own-marks (routineOf image k) next (deep-after + 1) (does .flow) ≡ 0
+  check-flow : flowCheck image own-marks (routineOf image r) next (deep-after + 1) (does .flow) ≡ 0
   unfolding instructionCheck
   check-flow = passed _ (h .checks) .1 .1 .1 .0
 
-  check-off-end : offEndCheck (routineOf image k) next (does .flow) ≡ 0
+  check-off-end : offEndCheck (routineOf image r) next (does .flow) ≡ 0
   unfolding instructionCheck
   check-off-end = passed _ (h .checks) .1 .1 .1 .1 .0
 
-  start : Start image k (p .at)
-  start = at-start image limits needs k swept below
-
-  within : (0 < n) × (next ≤ endOf image k)
-  within = found-inside image k (p .at) (h .found)
+  within : (0 < n) × (next ≤ endOf image r)
+  within = found-inside image r (p .at) (h .found)
 
   -- what marks are kept
-  own : getD own-marks (p .at) 0 ≡ d + 1
-  own = getD-set-same marks (p .at) (d + 1) 0 (omega (arith, swept .size))
-
-  other : (o : ℕ) → (o ≡ p .at → ⊥) → getD own-marks o 0 ≡ getD marks o 0
-  other o ne = getD-set-other marks (p .at) o (d + 1) 0 ne
-
   kept : (o : ℕ) → 1 ≤ getD marks o 0 → getD own-marks o 0 ≡ getD marks o 0
   kept o m =
       by-cases (ℕ-discrete o (p .at))
-      (λ e. rw e (own ∙ sym (h .deep) ∙ entry-known (p .falls) (getD marks (p .at) 0) (h .agree) (rw e at m)))
+      (λ e. rw e (own ∙ sym (h .deep) ∙ entry-known (p .falling) (getD marks (p .at) 0) (h .agree) (rw e at m)))
       (λ ne. other o ne)
 
-  changes : (o : ℕ) → MarkAfter image own-marks (routineOf image k) next (deep-after + 1) (does .flow) o
-  changes = mark-after image own-marks (routineOf image k) next (deep-after + 1) long₁ (does .flow) check-flow
+  changes : (o : ℕ) → MarkAfter image own-marks (routineOf image r) next (deep-after + 1) (does .flow) o
+  changes = mark-after image own-marks (routineOf image r) next (deep-after + 1) held (does .flow) check-flow
 
   kept-after : (o : ℕ) → 1 ≤ getD own-marks o 0 → getD marks-after o 0 ≡ getD own-marks o 0
   kept-after o m = known-kept (changes o) m
@@ -112,7 +106,7 @@ module _ (image : List ℕ) (layout : ImageRules image) (limits : Limits) (needs
       inside-zero own-marks (n - 1) (p .at + 1) check-inside o (omega arith) (omega arith)
 
   -- what was known still is
-  knows : (to e : ℕ) → Known image k marks p to e → Known image k marks-after state-after to e
+  knows : (to e : ℕ) → Known image r marks p to e → Known image r marks-after state-after to e
   knows to e g =
       record {
         low = g .low;
@@ -120,28 +114,28 @@ module _ (image : List ℕ) (layout : ImageRules image) (limits : Limits) (needs
         mark =
             inl (⊎-elim
             (λ m. let o = kept to (omega (arith, m)) in kept-after to (omega (arith, m, o)) ∙ o ∙ m)
-            (λ m. rw (m .0) (own-after ∙ sym (h .deep) ∙ entry-falls (p .falls) (getD marks (p .at) 0) (h .agree) (omega (arith, m .1)) ∙ m .1))
+            (λ m. rw (m .0) (own-after ∙ sym (h .deep) ∙ entry-falls (p .falling) (getD marks (p .at) 0) (h .agree) (omega (arith, m .1)) ∙ m .1))
             (g .mark));
       }
 
-  earlier : {address : ℕ} → Calls (baseOf image + next) (does .flow) address → callee image k address < k
+  earlier : {address : ℕ} → Calls (baseOf image + next) (does .flow) address → callee image r address < r
   earlier {address} c =
-      call-callee image k address
-      (sym (call-checked image own-marks (routineOf image k) next (deep-after + 1) c) ∙ check-flow)
+      call-callee image r address
+      (sym (call-checked image own-marks (routineOf image r) next (deep-after + 1) c) ∙ check-flow)
 
   -- the instruction meets the rules
-  rules : InstructionRules image limits k (Known image k marks-after state-after) (p .at) d i n
+  rules : InstructionRules image limits r (Known image r marks-after state-after) (p .at) d i n
   unfolding moved
   rules =
-      let f = depth-facts does d check-depth in
+      let f = depth-passed does d check-depth in
       record {
         pops-enough = omega arith;
         depth-before = omega arith;
         depth-after = omega arith;
-        return-empty = λ r. omega (arith, f .3 r);
+        return-empty = λ ret. omega (arith, f .3 ret);
         store = store-rules limits d (does .place) check-store;
         jump = λ j.
-            let l = jump-lands image own-marks (routineOf image k) next (deep-after + 1) long₁ (does .flow) check-flow j in
+            let l = jump-lands image own-marks (routineOf image r) next (deep-after + 1) held (does .flow) check-flow j in
             let g = l .2 in
             record {
               to = l .0;
@@ -150,26 +144,26 @@ module _ (image : List ℕ) (layout : ImageRules image) (limits : Limits) (needs
               high = g .high;
               lands = record { low = g .low; high = g .high; mark = inl (l .3) };
             };
-        call = λ {address} c. (callee image k address, callee-found image k address (earlier c));
+        call = λ {address} c. (callee image r address, callee-found image r address (earlier c));
         fall = λ t.
             record {
-              low = omega (arith, start-low image k start);
-              high = off-end-zero (routineOf image k) next (does .flow) check-off-end t;
+              low = omega (arith, start-low image r start);
+              high = off-end-zero (routineOf image r) next (does .flow) check-off-end t;
               mark = inr (refl, rw t);
             };
       }
 
   -- its use of the stack counts in the need
-  covered : {v : ℕ} → InstructionUse image (needIn needs) k (baseOf image + next) d does v → v ≤ state-after .need
+  covered : {v : ℕ} → InstructionUse image (needIn needs) r (baseOf image + next) d does v → v ≤ state-after .need
   unfolding moved
   covered before = omega arith
   covered behind = omega arith
   covered (calling {address} {callee = j} c to) =
-      let e = call-need image needs k next d c in
-      let same = ap (needIn needs) (callee-is image k address layout inside j to) in
+      let e = call-need image needs r next d c in
+      let same = ap (needIn needs) (callee-is image r address layout inside j to) in
       omega arith
 
-  done-before : {o : ℕ} → o < p .at → Done image limits needs k marks p o → Done image limits needs k marks-after state-after o
+  done-before : {o : ℕ} → o < p .at → Done image limits needs r marks p o → Done image limits needs r marks-after state-after o
   unfolding moved
   done-before {o} lower g =
       let m = below-after o (omega arith) ∙ other o (λ e. omega (arith, e)) in
@@ -184,7 +178,7 @@ module _ (image : List ℕ) (layout : ImageRules image) (limits : Limits) (needs
         covered = λ u. omega (arith, g .covered u);
       }
 
-  done-here : Done image limits needs k marks-after state-after (p .at)
+  done-here : Done image limits needs r marks-after state-after (p .at)
   done-here =
       record {
         d = d;
@@ -201,44 +195,44 @@ module _ (image : List ℕ) (layout : ImageRules image) (limits : Limits) (needs
   by-place : {P : Type 0} (o : ℕ) → o < next → (o < p .at → P) → (o ≡ p .at → P) → (p .at < o → P) → P
   by-place o high low here in-it = by-cases (ℕ-discrete o (p .at)) here (λ ne. by-cases (decLt o (p .at)) low (λ l. in-it (omega arith)))
 
-  done-after : {o : ℕ} → Start image k o → o < next → Done image limits needs k marks-after state-after o
+  done-after : {o : ℕ} → Start image r o → o < next → Done image limits needs r marks-after state-after o
   done-after {o} s high =
       by-place o high
       (λ l. done-before l (swept .done s l))
       (λ e. rw e done-here)
-      (λ l. absurd (omega (arith, next-start image k start (h .found) s l)))
+      (λ l. absurd (omega (arith, next-start image r start (h .found) s l)))
 
-  exact-after : (o : ℕ) → startOf image k ≤ o → o < next → 1 ≤ getD marks-after o 0 → Start image k o
+  exact-after : (o : ℕ) → startOf image r ≤ o → o < next → 1 ≤ getD marks-after o 0 → Start image r o
   exact-after o low high m =
       by-place o high
       (λ l. swept .exact o low l (omega (arith, below-after o high, other o (λ e. omega (arith, e)))))
       (λ e. rw e start)
       (λ l. absurd (omega (arith, none-inside o l high)))
 
-  ahead-after : (o : ℕ) → next ≤ o → o < endOf image k → 1 ≤ getD marks-after o 0 → Reached image k o
+  ahead-after : (o : ℕ) → next ≤ o → o < endOf image r → 1 ≤ getD marks-after o 0 → Reached image r o
   ahead-after o low high m = go (changes o)
     where
-      go : MarkAfter image own-marks (routineOf image k) next (deep-after + 1) (does .flow) o → Reached image k o
+      go : MarkAfter image own-marks (routineOf image r) next (deep-after + 1) (does .flow) o → Reached image r o
       go (unchanged e) = swept .ahead o (omega arith) high (omega (arith, e, other o (λ z. omega (arith, z, within))))
       go (target jumps passes e) = jumped start (h .found) jumps (omega (arith, within))
 
-  fell-after : 1 ≤ state-after .falls → Reached image k next
+  fell-after : 1 ≤ state-after .falling → Reached image r next
   unfolding moved
   fell-after = go (falls (does .flow)) refl
     where
-      go : (t : Bool) → falls (does .flow) ≡ t → 1 ≤ cond t (deep-after + 1) 0 → Reached image k next
+      go : (t : Bool) → falls (does .flow) ≡ t → 1 ≤ cond t (deep-after + 1) 0 → Reached image r next
       go true t some = fallen start (h .found) t
       go false t some = absurd (omega arith)
 
-  place-after : Start image k next ⊎ (next ≡ endOf image k)
-  place-after = by-cases (decLt next (endOf image k)) (λ l. inl (follows start (h .found) l)) (λ l. inr (omega (arith, within)))
+  place-after : Start image r next ⊎ (next ≡ endOf image r)
+  place-after = by-cases (decLt next (endOf image r)) (λ l. inl (follows start (h .found) l)) (λ l. inr (omega (arith, within)))
 
-  outside-after : (o : ℕ) → (o < startOf image k) ⊎ (endOf image k ≤ o) → getD marks-after o 0 ≡ getD marks o 0
+  outside-after : (o : ℕ) → (o < startOf image r) ⊎ (endOf image r ≤ o) → getD marks-after o 0 ≡ getD marks o 0
   outside-after o out =
-      outside-kept (changes o) out ∙ other o (λ e. ⊎-elim (λ l. omega (arith, start-low image k start)) (λ l. omega arith) out)
+      outside-kept (changes o) out ∙ other o (λ e. ⊎-elim (λ l. omega (arith, start-low image r start)) (λ l. omega arith) out)
 
   size-after : length marks-after ≡ length marks
-  size-after = target-length image own-marks (routineOf image k) next (deep-after + 1) (does .flow) ∙ length-set marks (p .at) (d + 1)
+  size-after = targeted-length (baseOf image) own-marks next (deep-after + 1) (does .flow) ∙ length-set marks (p .at) (d + 1)
 
   count-after : state-after .count ≡ countBelow (marked marks-after) next
   unfolding moved
@@ -251,10 +245,10 @@ module _ (image : List ℕ) (layout : ImageRules image) (limits : Limits) (needs
       omega (arith, swept .count)
 
   -- the need is the one before or what this instruction uses
-  attain-here : {v : ℕ} → InstructionUse image (needIn needs) k (baseOf image + next) d does v → Attained image limits needs k marks-after v
+  attain-here : {v : ℕ} → InstructionUse image (needIn needs) r (baseOf image + next) d does v → Attained image limits needs r marks-after v
   attain-here u = record { o = p .at; d = d; i = i; n = n; start = start; found = h .found; mark = own-after; used = u }
 
-  attain-before : {v : ℕ} → Attained image limits needs k marks v → Attained image limits needs k marks-after v
+  attain-before : {v : ℕ} → Attained image limits needs r marks v → Attained image limits needs r marks-after v
   attain-before a =
       let m = a .mark in
       let e = kept (a .o) (omega arith) in
@@ -270,18 +264,18 @@ module _ (image : List ℕ) (layout : ImageRules image) (limits : Limits) (needs
       }
 
   Attains : ℕ → Type 0
-  Attains v = (v ≡ 0) ⊎ Attained image limits needs k marks-after v
+  Attains v = (v ≡ 0) ⊎ Attained image limits needs r marks-after v
 
   attains-max : (a b : ℕ) → Attains a → Attains b → Attains (max a b)
   attains-max a b x y =
       by-cases (decLt a b) (λ l. let e : max a b ≡ b = omega arith in rw e y) (λ l. let e : max a b ≡ a = omega arith in rw e x)
 
-  attains-call : Attains (callNeed image needs k next d (does .flow))
+  attains-call : Attains (callNeed image needs r next d (does .flow))
   unfolding Attains
   attains-call =
       ⊎-elim inl
-      (λ c. inr (rw (c .2) (attain-here (calling (c .1) (callee-found image k (c .0) (earlier (c .1)))))))
-      (call-need-cases image needs k next d (does .flow))
+      (λ c. inr (rw (c .2) (attain-here (calling (c .1) (callee-found image r (c .0) (earlier (c .1)))))))
+      (call-need-cases image needs r next d (does .flow))
 
   attained-after : Attains (state-after .need)
   unfolding moved Attains
@@ -290,7 +284,7 @@ module _ (image : List ℕ) (layout : ImageRules image) (limits : Limits) (needs
       (attains-max _ _ (attains-max _ _ (⊎-map (λ z. z) attain-before (swept .attained)) (inr (attain-here before))) (inr (attain-here behind)))
       attains-call
 
-  pub swept-after : Swept image limits needs k given marks-after state-after
+  pub swept-after : Swept image limits needs r given marks-after state-after
   unfolding moved Attains
   swept-after =
       record {

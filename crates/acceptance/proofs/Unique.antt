@@ -77,5 +77,7 @@ pub one-count : {image : List ℕ} {c c′ : ℕ} → StartCount image c → Sta
 one-count {image} s t =
     s .counts ∙
     count-same (s .isStart) (t .isStart) (sizeOf image)
-    (λ o below. same-test (s .isStart o) (t .isStart o) (λ e. t .exact o below .1 (s .exact o below .0 e), λ e. s .exact o below .1 (t .exact o below .0 e))) ∙
+    (λ o below.
+    same-test (s .isStart o) (t .isStart o)
+    (λ e. t .exact o below .1 (s .exact o below .0 e), λ e. s .exact o below .1 (t .exact o below .0 e))) ∙
     sym (t .counts)

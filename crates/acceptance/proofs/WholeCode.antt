@@ -1,28 +1,24 @@
 -- The sweep of the whole code, over marks that are all 0: not refused exactly where every routine meets the rules.
 use Prim.Native.Nat.{ℕ, _<_, _≤_}
 use mathlib.Core.Path.{_≡_, refl, ap, _∙_}
-use mathlib.Core.Logic.{⊎-map, by-cases}
+use mathlib.Core.Logic.{⊎-map}
 use mathlib.Core.List.{List}
-use native.Mathlib.Decide.{decLt}
 use native.Mathlib.Nat.{eq-zero-or-pos}
 use native.Mathlib.Omega.{arith}
-use lib.ListN.{getD, replicate, length-replicate, getD-replicate, List·getD-eq-default}
+use lib.ListN.{getD, replicate, length-replicate}
 use borrow.Author.Tests.{ltb-true, lt-ltb}
 use Rattle.image.specs.declared.Limits.{Limits}
 use Rattle.image.specs.Image.{countOf, sizeOf, startOf}
 use Rattle.image.specs.Rules.{ImageRules}
 use Rattle.image.proofs.Measuring.{start-zero, start-count}
 use Rattle.checker.specs.Sweep.{begun}
-use Rattle.checker.specs.Check.{swept}
+use Rattle.checker.specs.Check.{swept, needIn}
+use Rattle.checker.proofs.Routines.{zeros-at}
 use Rattle.acceptance.specs.Rules.{Start, RoutineRules, Use, Greatest, countBelow, StartCount}
 use Rattle.acceptance.specs.Acceptance.{AcceptedMarks}
-use Rattle.acceptance.proofs.Swept.{marked, needIn}
+use Rattle.acceptance.proofs.Swept.{marked}
 use Rattle.acceptance.proofs.OneRoutine.{depthIn}
 use Rattle.acceptance.proofs.AllRoutines.{RoutinesSwept, routines-sound, routines-complete}
-
-pub zeros : (n o : ℕ) → _≡_ {A = ℕ} (getD (replicate n 0) o 0) 0
-zeros n o =
-    by-cases (decLt o n) (λ l. getD-replicate n o 0 0 l) (λ l. List·getD-eq-default (replicate n 0) 0 {n = o} (omega (arith, length-replicate {A = ℕ} n 0)))
 
 module _ (image : List ℕ) (layout : ImageRules image) (limits : Limits) where
   none-yet : RoutinesSwept image limits (replicate (sizeOf image) 0) begun
@@ -31,11 +27,11 @@ module _ (image : List ℕ) (layout : ImageRules image) (limits : Limits) where
       record {
         size = length-replicate {A = ℕ} (sizeOf image) 0;
         held = length-replicate {A = ℕ} 32 0;
-        clear = λ o low. zeros (sizeOf image) o;
+        clear = λ o low. zeros-at (sizeOf image) o;
         rules = λ r below. absurd (omega arith);
         most = λ r below. absurd (omega arith);
         starts = λ r below s. absurd (omega arith);
-        exact = λ o below m. absurd (omega (arith, zeros (sizeOf image) o));
+        exact = λ o below m. absurd (omega (arith, zeros-at (sizeOf image) o));
         counted = rw (start-zero image);
       }
 

@@ -6,7 +6,8 @@ use mathlib.Core.List.{List}
 use lib.ListN.{length, getD}
 use Rattle.image.specs.declared.Limits.{Limits}
 use Rattle.image.specs.Image.{countOf, sizeOf}
-use Rattle.acceptance.specs.Rules.{Start, Rules, reportedNeed, StartCount}
+use Rattle.checker.specs.Depth.{reportedNeed}
+use Rattle.acceptance.specs.Rules.{Start, Rules, StartCount}
 
 -- the rules hold, the marks are enough, and need and count are the ones to report
 pub record Acceptable (image : List ℕ) (limits : Limits) (marks : List ℕ) (need count : ℕ) : Type 0 where

@@ -18,9 +18,11 @@ use Rattle.stm8.specs.declared.Place.the-variants.{Nowhere, Direct, OnStack, Pu
 use Rattle.stm8.specs.declared.Flow.{Flow}
 use Rattle.stm8.specs.declared.Flow.the-variants.{Branch, Jump, Call, CallRelative, Return}
 use Rattle.image.specs.declared.Limits.{Limits}
-use Rattle.image.specs.Image.{baseOf, countOf, sizeOf, codeOf, startOf, endOf, mainOf}
+use Rattle.image.specs.Image.{baseOf, countOf, sizeOf, codeOf, startOf, endOf}
+use Rattle.image.specs.Access.{Granted}
 use Rattle.image.specs.Rules.{LimitsRules, ImageRules}
 use Rattle.checker.specs.Depth.{popped, after, falls}
+pub use Rattle.checker.specs.Depth.{reportedNeed}
 
 -- what the bytes at an offset of routine r are; they end with the routine
 unfoldable pub instructionAt : List ℕ → ℕ → ℕ → Decoded
@@ -65,7 +67,7 @@ pub record Callee (image : List ℕ) (r address callee : ℕ) : Type 0 where
 -- A direct store, both bytes of a word included, lies in the grant. An SP store at offset f needs f at least 1 and its last byte at most at the depth.
 abbrev pub StoreRules : Limits → ℕ → Place → Type 0
 StoreRules limits depth Nowhere = Unit {0}
-StoreRules limits depth (Direct address w) = (limits .grant .low ≤ address) × (address + (bytesWide w - 1) ≤ limits .grant .high)
+StoreRules limits depth (Direct address w) = (k : ℕ) → k < bytesWide w → Granted limits (address + k)
 StoreRules limits depth (OnStack f w) = (1 ≤ f) × (f + (bytesWide w - 1) ≤ depth)
 StoreRules limits depth (Pushed w) = Unit {0}
 
@@ -120,10 +122,6 @@ pub record Use (image : List ℕ) (depth need : ℕ → ℕ) (r v : ℕ) : Type 
 pub record Greatest (P : ℕ → Type 0) (most : ℕ) : Type 0 where
   pub is : P most
   pub bounds : {v : ℕ} → P v → v ≤ most
-
--- Reported need is 2 + main's need.
-abbrev pub reportedNeed : List ℕ → (ℕ → ℕ) → ℕ
-reportedNeed image need = 2 + need (mainOf image)
 
 -- all rules; a routine's need is the greatest of what it uses, and the stack area is not below reported need
 pub record Rules (image : List ℕ) (limits : Limits) (depth need : ℕ → ℕ) : Type 0 where

@@ -13,7 +13,8 @@ use Rattle.image.specs.Image.{codeAt, codeOf}
 use Rattle.checker.specs.Sweep.{bytesAt}
 use Rattle.checker.specs.declared.sweep.Routine.{Routine}
 
-pub decoded-at : (image : List ℕ) (code : ℕ) (r : Routine) (at : ℕ) (plain after72 after90 : List ℕ) → code ≡ codeAt image → Bytes image → Tables plain after72 after90 →
+pub decoded-at : (image : List ℕ) (code : ℕ) (r : Routine) (at : ℕ) (plain after72 after90 : List ℕ) →
+    code ≡ codeAt image → Bytes image → Tables plain after72 after90 →
     decodedBy (tables plain after72 after90) (take (code + r .end - (code + at)) (drop (code + at) image)) ≡ decoded (bytesAt image r at)
 unfolding bytesAt codeOf
 decoded-at image code r at plain after72 after90 e bytes t =

@@ -8,10 +8,12 @@ use borrow.Author.Tests.{eq-eqb, ne-eqb, lt-ltb, le-ltb}
 use Rattle.numbers.specs.Checks.{first, under}
 use Rattle.numbers.proofs.Folding.{passed}
 use Rattle.numbers.proofs.Checking.{under-zero}
+use Rattle.stm8.specs.declared.Flow.{Flow}
+use Rattle.stm8.specs.declared.Flow.the-variants.{Next, Branch, Jump, Call, CallRelative, Return}
 use Rattle.stm8.specs.declared.Effect.{Effect}
 use Rattle.image.specs.Image.{baseOf, startOf}
 use Rattle.checker.specs.Depth.{popped, after}
-use Rattle.checker.specs.Sweep.{insideCheck, depthCheck, beginning, callee}
+use Rattle.checker.specs.Sweep.{insideCheck, returnCheck, depthCheck, beginning, callee}
 
 -- the marks inside an instruction: the next one, and none left
 module _ (marks : List ℕ) (end i m : ℕ) (h : i < end) (e : m ≡ getD marks i 0) where
@@ -32,12 +34,22 @@ pub inside-done : (marks : List ℕ) (end i : ℕ) → end ≤ i → insideCheck
 unfolding insideCheck
 inside-done marks end i h = let none : end - i ≡ 0 = omega arith in rw none
 
+-- RET needs depth 0
+returned : (flow : Flow) (depth : ℕ) → returnCheck flow depth ≡ 0 → flow ≡ Return → depth ≡ 0
+returned Next depth e r = let z : _≡_ {A = ℕ} 0 1 = cc in absurd (omega arith)
+returned (Branch n) depth e r = let z : _≡_ {A = ℕ} 0 1 = cc in absurd (omega arith)
+returned (Jump n) depth e r = let z : _≡_ {A = ℕ} 0 1 = cc in absurd (omega arith)
+returned (Call a) depth e r = let z : _≡_ {A = ℕ} 0 1 = cc in absurd (omega arith)
+returned (CallRelative n) depth e r = let z : _≡_ {A = ℕ} 0 1 = cc in absurd (omega arith)
+returned Return depth e r = omega (arith, under-zero 0 depth 10 e)
+
 -- what a passed depth check says
-pub depth-passed : (e : Effect) (depth : ℕ) → depthCheck e depth ≡ 0 → (popped e ≤ depth) × (depth ≤ 255) × (after e depth ≤ 255)
+pub depth-passed : (e : Effect) (depth : ℕ) → depthCheck e depth ≡ 0 →
+    (popped e ≤ depth) × (depth ≤ 255) × (after e depth ≤ 255) × (e .flow ≡ Return → depth ≡ 0)
 unfolding depthCheck
 depth-passed e depth h =
     let p = passed _ h in
-    (under-zero depth (popped e) 10 (p .0), under-zero 255 depth 10 (p .1 .0), under-zero 255 (after e depth) 10 (p .1 .1 .0))
+    (under-zero _ _ 10 (p .0), under-zero _ _ 10 (p .1 .0), under-zero _ _ 10 (p .1 .1 .0), returned (e .flow) depth (p .1 .1 .1 .0))
 
 -- the search for a callee: the next routine, and none left
 module _ (image : List ℕ) (offset r j start : ℕ) (h : j < r) (e : start ≡ startOf image j) where

@@ -9,18 +9,19 @@ use Rattle.image.specs.Image.{countOf, mainOf, sizeOf}
 use Rattle.image.specs.declared.Limits.{Limits}
 use Rattle.image.specs.declared.Layout.{Layout}
 use Rattle.image.specs.declared.Validated.the-variants.{Valid}
+use Rattle.checker.specs.Depth.{reportedNeed}
 use Rattle.checker.specs.Sweep.{routinesFrom, begun}
-use Rattle.checker.specs.Check.{swept, reportedNeed, verdict, codeMarks, codeChecked, validatedChecked}
+use Rattle.checker.specs.Check.{swept, needIn, verdict, codeMarks, codeChecked, validatedChecked}
 use Rattle.checker.specs.declared.sweep.Sweep.{Sweep}
 use Rattle.checker.specs.declared.Verdict.{Verdict}
 use Rattle.checker.specs.declared.Verdict.the-variants.{Accepted, Refused}
 
 module _ (image : List ℕ) (limits : Limits) (s : Sweep) where
-  pub need-reported : (count : ℕ) → count ≡ countOf image → getD (s .needs) (count - 1) 0 + 2 ≡ reportedNeed image s
-  unfolding reportedNeed mainOf
+  pub need-reported : (count : ℕ) → count ≡ countOf image → getD (s .needs) (count - 1) 0 + 2 ≡ reportedNeed image (needIn (s .needs))
+  unfolding mainOf
   need-reported count e = rw (← e) (omega arith)
 
-  module _ (none : s .refusal ≡ 0) (need : ℕ) (is : need ≡ reportedNeed image s) where
+  module _ (none : s .refusal ≡ 0) (need : ℕ) (is : need ≡ reportedNeed image (needIn (s .needs))) where
     pub verdict-16 : limits .stack .high + 1 < limits .stack .low + need → Refused 16 0 ≡ verdict image limits s
     unfolding verdict
     verdict-16 h = rw (eq-eqb (s .refusal) 0 none, ← is, lt-ltb (limits .stack .high + 1) (limits .stack .low + need) h)

@@ -8,7 +8,8 @@ use Rattle.image.specs.declared.Limits.{Limits}
 use Rattle.image.specs.declared.Validated.{Validated}
 use Rattle.image.specs.declared.Validated.the-variants.{Refused, Valid}
 use Rattle.image.specs.Validation.{validated}
-use Rattle.image.specs.Image.{countOf, mainOf, sizeOf}
+use Rattle.image.specs.Image.{countOf, sizeOf}
+use Rattle.checker.specs.Depth.{reportedNeed}
 use Rattle.checker.specs.Sweep.{routinesFrom, begun}
 use Rattle.checker.specs.declared.sweep.Sweep.{Sweep}
 use Rattle.checker.specs.declared.Verdict.{Verdict}
@@ -18,17 +19,17 @@ use Rattle.checker.specs.declared.Verdict.the-variants as Verdict
 unfoldable pub swept : List ℕ → Limits → Sweep × List ℕ
 swept image limits = routinesFrom (countOf image) image limits (replicate (sizeOf image) 0) begun
 
--- reported need is 2 + main's need
-unfoldable pub reportedNeed : List ℕ → Sweep → ℕ
-reportedNeed image s = 2 + getD (s .needs) (mainOf image) 0
+-- the needs that are held, 0 past them
+abbrev pub needIn : List ℕ → ℕ → ℕ
+needIn needs r = getD needs r 0
 
 -- what the sweep's last state says; 16, stack area below reported need, comes last
 unfoldable pub verdict : List ℕ → Limits → Sweep → Verdict
 verdict image limits s =
     cond (eqb (s .refusal) 0)
-    (cond (ltb (limits .stack .high + 1) (limits .stack .low + reportedNeed image s))
+    (cond (ltb (limits .stack .high + 1) (limits .stack .low + reportedNeed image (needIn (s .needs))))
     (Verdict.Refused 16 0)
-    (Verdict.Accepted (reportedNeed image s) (s .count)))
+    (Verdict.Accepted (reportedNeed image (needIn (s .needs))) (s .count)))
     (Verdict.Refused (s .refusal) (s .at))
 
 -- after refusals 6 to 16 all code marks are 0

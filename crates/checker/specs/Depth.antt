@@ -1,9 +1,11 @@
--- Depth: the number of stack bytes a routine has in use beyond its return address.
+-- Depth, the number of stack bytes a routine has in use beyond its return address, and the need that is reported.
 use Prim.Native.Nat.{ℕ, _+_, _-_}
 use mathlib.Core.Bool.{Bool, true, false, cond}
+use mathlib.Core.List.{List}
 use Rattle.stm8.specs.declared.Effect.{Effect}
 use Rattle.stm8.specs.declared.Flow.{Flow}
 use Rattle.stm8.specs.declared.Flow.the-variants.{Next, Branch, Jump, Call, CallRelative, Return}
+use Rattle.image.specs.Image.{mainOf}
 
 -- A call leaves depth unchanged: what it pushes is the callee's return address, which the callee's RET pops.
 abbrev pub movesDepth : Flow → Bool
@@ -33,3 +35,7 @@ falls (Jump n) = false
 falls (Call a) = true
 falls (CallRelative n) = true
 falls Return = false
+
+-- reported need is 2 + main's need, of the needs of all routines
+abbrev pub reportedNeed : List ℕ → (ℕ → ℕ) → ℕ
+reportedNeed image need = 2 + need (mainOf image)

@@ -19,13 +19,13 @@ use Rattle.checker.specs.declared.sweep.Sweep.{Sweep}
 
 -- where the routines before r begin
 abbrev pub Begins : List ℕ → List ℕ → ℕ → Type 0
-Begins image starts r = (k : ℕ) → k < r → getD starts k 0 ≡ startOf image k
+Begins image begins r = (k : ℕ) → k < r → getD begins k 0 ≡ startOf image k
 
 -- a valid image and what is made of it once for the whole sweep
-pub record Setting (image : List ℕ) (limits : Limits) (layout : Layout) (plain after72 after90 starts : List ℕ) : Type 0 where
+pub record Setting (image : List ℕ) (limits : Limits) (layout : Layout) (plain after72 after90 begins : List ℕ) : Type 0 where
   pub valid : validated image limits ≡ Valid layout
   pub tables : Tables plain after72 after90
-  pub begins : Begins image starts (layout .count)
+  pub routines : Begins image begins (layout .count)
 
 -- the callee of an instruction of routine r, 0 where it is no call
 abbrev pub called : List ℕ → ℕ → ℕ → Flow → ℕ
@@ -47,7 +47,7 @@ pub record Ready (layout : Layout) (marks : List ℕ) (r : Routine) (p : Progres
   pub at : p .at < r .end
   pub end : r .end ≤ layout .size
   pub cells : length marks ≡ layout .size
-  pub falls : p .falls ≤ 256
+  pub falling : p .falling ≤ 256
   pub need : p .need ≤ 257 * (r .index + 1)
   pub count : p .count ≤ p .at
 

@@ -7,7 +7,7 @@ use lib.Dec.{eqb, ltb}
 use lib.ListN.{getD, set, replicate, take, drop}
 use Rattle.numbers.specs.Checks.{first, both, under, unless, differ}
 use Rattle.numbers.specs.Folds.{firstIn}
-use Rattle.stm8.specs.Decoding.{decoded}
+use Rattle.stm8.specs.Decoding.{decoded, decodingNumber}
 use Rattle.stm8.specs.Effects.{relative, bytesWide, effect}
 use Rattle.stm8.specs.declared.Place.{Place}
 use Rattle.stm8.specs.declared.Place.the-variants.{Nowhere, Direct, OnStack, Pushed}
@@ -26,11 +26,11 @@ use Rattle.checker.specs.declared.sweep.Sweep.{Sweep}
 
 -- 6, start not reached: nothing falls into it and no jump from a lower address goes there
 unfoldable pub reachCheck : ℕ → ℕ → ℕ
-reachCheck falls mark = both (under falls 1 6) (under mark 1 6)
+reachCheck falling mark = both (under falling 1 6) (under mark 1 6)
 
 -- 7, depths disagree: that of falling and that of an earlier jump
 unfoldable pub agreeCheck : ℕ → ℕ → ℕ
-agreeCheck falls mark = both (under 0 falls 7) (both (under 0 mark 7) (differ falls mark 7))
+agreeCheck falling mark = both (under 0 falling 7) (both (under 0 mark 7) (differ falling mark 7))
 
 -- 10, a known target inside an instruction: one of the n marks from an offset on is not 0
 unfoldable pub insideCheck : List ℕ → ℕ → ℕ → ℕ
@@ -130,7 +130,7 @@ targeted base marks next mark (CallRelative n) = marks
 targeted base marks next mark Return = marks
 
 abbrev pub refused : Progress → ℕ → Progress
-refused p number = record { refusal = number; at = p .at; falls = p .falls; need = p .need; count = p .count }
+refused p number = record { refusal = number; at = p .at; falling = p .falling; need = p .need; count = p .count }
 
 -- after an instruction that meets every rule
 unfoldable pub moved : List ℕ → List ℕ → Routine → Progress → ℕ → ℕ → Effect → Progress
@@ -138,15 +138,15 @@ moved image needs r p depth n e =
     record {
       refusal = 0;
       at = p .at + n;
-      falls = cond (falls (e .flow)) (after e depth + 1) 0;
+      falling = cond (falls (e .flow)) (after e depth + 1) 0;
       need = max (max (max (p .need) depth) (after e depth)) (callNeed image needs (r .index) (p .at + n) depth (e .flow));
       count = p .count + 1;
     }
 
 -- a start that is reached at a depth, whose bytes decode so: 8, 9, then the instruction's checks
 unfoldable pub decodedAt : List ℕ → Limits → List ℕ → Routine → List ℕ → Progress → ℕ → Decoded → Progress × List ℕ
-decodedAt image limits needs r marks p depth Outside = (refused p 8, marks)
-decodedAt image limits needs r marks p depth Truncated = (refused p 9, marks)
+decodedAt image limits needs r marks p depth Outside = (refused p (decodingNumber Outside), marks)
+decodedAt image limits needs r marks p depth Truncated = (refused p (decodingNumber Truncated), marks)
 decodedAt image limits needs r marks p depth (Found i n) =
     let refusal = instructionCheck image limits marks r (p .at) depth n (effect i) in
     cond (eqb refusal 0)
@@ -157,17 +157,13 @@ decodedAt image limits needs r marks p depth (Found i n) =
 unfoldable pub bytesAt : List ℕ → Routine → ℕ → List ℕ
 bytesAt image r at = take (r .end - at) (drop at (codeOf image))
 
--- depth + 1 at a start that is reached
-abbrev pub entry : ℕ → ℕ → ℕ
-entry falls mark = max falls mark
-
--- one start
+-- one start: what is reached has depth + 1 as its mark
 unfoldable pub startAt : List ℕ → Limits → List ℕ → Routine → List ℕ → Progress → Progress × List ℕ
 startAt image limits needs r marks p =
     let mark = getD marks (p .at) 0 in
-    let refusal = first (reachCheck (p .falls) mark) (agreeCheck (p .falls) mark) in
+    let refusal = first (reachCheck (p .falling) mark) (agreeCheck (p .falling) mark) in
     cond (eqb refusal 0)
-    (decodedAt image limits needs r (set marks (p .at) (entry (p .falls) mark)) p (entry (p .falls) mark - 1) (decoded (bytesAt image r (p .at))))
+    (decodedAt image limits needs r (set marks (p .at) (max (p .falling) mark)) p (max (p .falling) mark - 1) (decoded (bytesAt image r (p .at))))
     (refused p refusal, marks)
 
 -- the starts from here to the routine's end, or to the first refusal; fuel is at least the number of bytes left
@@ -181,7 +177,7 @@ startsFrom (suc fuel) image limits needs r marks p =
 
 -- a routine's first byte is always reached, at depth 0
 abbrev pub entered : Routine → ℕ → Progress
-entered r count = record { refusal = 0; at = r .start; falls = 1; need = 0; count = count }
+entered r count = record { refusal = 0; at = r .start; falling = 1; need = 0; count = count }
 
 abbrev pub routineOf : List ℕ → ℕ → Routine
 routineOf image k = record { index = k; start = startOf image k; end = endOf image k }

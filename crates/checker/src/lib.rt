@@ -58,19 +58,19 @@ fn clear_refused(v: Verdict, marks: &mut [u16])
 }
 
 // Where each routine begins.
-fn routine_starts(image: &[u8], count: usize) -> [u16; 32]
+fn routine_begins(image: &[u8], count: usize) -> [u16; 32]
     requires { ⌜ (count ≡ countOf (now image)) × (count ≤ 32) × (sizeOf (now image) ≤ 4096) ⌝ }
     ensures { λ r. ⌜ Begins (now (image .entry)) r count ⌝ }
 {
-    let mut starts = [0u16; 32];
+    let mut begins = [0u16; 32];
     let mut k = 0;
     let mut at = 0;
     while k < count {
-        starts[k] = at as u16;
+        begins[k] = at as u16;
         at += routine_length(image, k) as usize;
         k += 1;
     }
-    starts
+    begins
 }
 
 // The sweep of a valid image's code, over as many marks as it has bytes.
@@ -82,7 +82,7 @@ fn check_code(image: &[u8], limits: Limits, layout: Layout, marks: &mut [u16]) -
     let plain = stm8::plain_lengths();
     let after_72 = stm8::after_72_lengths();
     let after_90 = stm8::after_90_lengths();
-    let starts = routine_starts(image, layout.count);
+    let begins = routine_begins(image, layout.count);
     let s = sweep_routines(
         image,
         limits,
@@ -90,7 +90,7 @@ fn check_code(image: &[u8], limits: Limits, layout: Layout, marks: &mut [u16]) -
         &plain,
         &after_72,
         &after_90,
-        &starts,
+        &begins,
         marks,
     );
     let v = verdict_of(limits, layout, s);

@@ -3,7 +3,7 @@ ghost use mathlib.Core.Path.{_≡_};
 ghost use Prim.Native.Nat.{_≤_};
 ghost use lib.ListN.{length, getD, set, replicate};
 
-// A mark or a need as a number to reckon with.
+// A mark, a need or where a routine begins, as a number to reckon with. It is a function so that its contract tells callers the bound.
 pub fn wide(x: u16) -> usize
     ensures { λ r. ⌜ r ≡ x ⌝ }
     ensures { λ r. ⌜ r ≤ 65535 ⌝ }

@@ -4,7 +4,8 @@ ghost use mathlib.Core.List.{List};
 ghost use Prim.Native.Nat.{ℕ, _+_, _-_, _≤_};
 ghost use Rattle.stm8.specs.Effects.{relative as relativeTo};
 ghost use Rattle.image.specs.Image.{baseOf};
-ghost use Rattle.checker.specs.Sweep.{reachCheck, agreeCheck, insideCheck, returnCheck, depthCheck, storeCheck, jumpCheck, callee as calleeOf, flowCheck, offEndCheck, instructionCheck};
+ghost use Rattle.checker.specs.Sweep.{reachCheck, agreeCheck, insideCheck, returnCheck, depthCheck, storeCheck, jumpCheck};
+ghost use Rattle.checker.specs.Sweep.{callee as calleeOf, flowCheck, offEndCheck, instructionCheck};
 ghost use Rattle.checker.specs.Internal.{Begins, called};
 use crate::depth::after;
 use crate::depth::falls;
@@ -27,18 +28,18 @@ use stm8::Flow;
 use stm8::Place;
 
 // 6 where neither falling nor an earlier jump reaches a start.
-pub fn reach_check(falls: usize, mark: usize) -> u8
-    ensures { λ r. ⌜ r ≡ reachCheck falls mark ⌝ }
+pub fn reach_check(falling: usize, mark: usize) -> u8
+    ensures { λ r. ⌜ r ≡ reachCheck falling mark ⌝ }
 {
-    both(under(falls, 1, 6), under(mark, 1, 6))
+    both(under(falling, 1, 6), under(mark, 1, 6))
 }
 
 // 7 where both do, at two depths.
-pub fn agree_check(falls: usize, mark: usize) -> u8
-    ensures { λ r. ⌜ r ≡ agreeCheck falls mark ⌝ }
+pub fn agree_check(falling: usize, mark: usize) -> u8
+    ensures { λ r. ⌜ r ≡ agreeCheck falling mark ⌝ }
 {
-    let known = both(under(0, mark, 7), differ(falls, mark, 7));
-    both(under(0, falls, 7), known)
+    let known = both(under(0, mark, 7), differ(falling, mark, 7));
+    both(under(0, falling, 7), known)
 }
 
 // 10 where a mark from one offset up to another is not 0.
@@ -69,7 +70,8 @@ fn return_check(flow: Flow, depth: usize) -> u8
     }
 }
 
-// 11 where depth leaves 0 to 255, too.
+// 11 where depth leaves 0 to 255, too. Before an instruction it never does, since 11 refuses whatever would take it there: to test it here spares
+// an invariant over all marks.
 fn depth_check(e: Effect, depth: usize) -> u8
     requires { ⌜ depth ≤ 65535 ⌝ }
     ensures { λ r. ⌜ r ≡ depthCheck e depth ⌝ }
@@ -123,9 +125,9 @@ fn jump_check(base: u16, marks: &[u16], r: Routine, next: usize, mark: usize, of
 }
 
 // The callee of a call from routine r; r where the call goes to no earlier routine's first byte.
-fn callee(starts: &[u16; 32], base: u16, r: usize, address: usize) -> usize
+fn callee(begins: &[u16; 32], base: u16, r: usize, address: usize) -> usize
     requires { ⌜ r ≤ 32 ⌝ }
-    ensures { λ x. ⌜ ((image : List ℕ) → base ≡ baseOf image → Begins image (now (starts .entry)) r → x ≡ calleeOf image r address) ⌝ }
+    ensures { λ x. ⌜ ((image : List ℕ) → base ≡ baseOf image → Begins image (now (begins .entry)) r → x ≡ calleeOf image r address) ⌝ }
     ensures { λ x. ⌜ x ≤ r ⌝ }
 {
     let base = base as usize;
@@ -135,7 +137,7 @@ fn callee(starts: &[u16; 32], base: u16, r: usize, address: usize) -> usize
     let offset = address - base;
     let mut j = 0;
     while j < r {
-        if wide(starts[j]) == offset {
+        if wide(begins[j]) == offset {
             return j;
         }
         j += 1;
@@ -144,17 +146,17 @@ fn callee(starts: &[u16; 32], base: u16, r: usize, address: usize) -> usize
 }
 
 // The callee of an instruction, 0 where it is no call.
-pub fn called_by(starts: &[u16; 32], base: u16, r: usize, next: usize, flow: Flow) -> usize
+pub fn called_by(begins: &[u16; 32], base: u16, r: usize, next: usize, flow: Flow) -> usize
     requires { ⌜ (r ≤ 32) × (next ≤ 4096) ⌝ }
-    ensures { λ x. ⌜ ((image : List ℕ) → base ≡ baseOf image → Begins image (now (starts .entry)) r → x ≡ called image r next flow) ⌝ }
+    ensures { λ x. ⌜ ((image : List ℕ) → base ≡ baseOf image → Begins image (now (begins .entry)) r → x ≡ called image r next flow) ⌝ }
     ensures { λ x. ⌜ x ≤ r ⌝ }
 {
     match flow {
         Flow::Next => 0,
         Flow::Branch(_) => 0,
         Flow::Jump(_) => 0,
-        Flow::Call(a) => callee(starts, base, r, a as usize),
-        Flow::CallRelative(n) => callee(starts, base, r, target(base, next, n)),
+        Flow::Call(a) => callee(begins, base, r, a as usize),
+        Flow::CallRelative(n) => callee(begins, base, r, target(base, next, n)),
         Flow::Return => 0,
     }
 }

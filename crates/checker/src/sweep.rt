@@ -7,7 +7,8 @@ ghost use lib.ListN.{length};
 ghost use Rattle.stm8.specs.declared.Decoded.the-variants.{Found};
 ghost use Rattle.image.specs.Image.{baseOf, countOf, endOf};
 ghost use Rattle.checker.specs.Depth.{falls as fallsBy, after as afterOf};
-ghost use Rattle.checker.specs.Sweep.{callNeed, targeted, refused as refusedWith, moved as movedBy, decodedAt, startAt, routineSwept, closed as closedAt, stopped as stoppedAt, routinesFrom, begun};
+ghost use Rattle.checker.specs.Sweep.{callNeed, targeted, refused as refusedWith, moved as movedBy, decodedAt, startAt};
+ghost use Rattle.checker.specs.Sweep.{entered as enteredAt, routineSwept, closed as closedAt, stopped as stoppedAt, routinesFrom, begun};
 ghost use Rattle.checker.specs.Internal.{Setting, Begins, called, Ready, Between, Ended, Swept};
 use crate::decoding::decode_at;
 use crate::depth::after;
@@ -44,7 +45,7 @@ pub struct Routine {
 pub struct Progress {
     pub refusal: u8,
     pub at: usize,
-    pub falls: usize,
+    pub falling: usize,
     pub need: usize,
     pub count: usize,
 }
@@ -96,14 +97,14 @@ fn refused(p: Progress, number: u8) -> Progress
     Progress {
         refusal: number,
         at: p.at,
-        falls: p.falls,
+        falling: p.falling,
         need: p.need,
         count: p.count,
     }
 }
 
 // Depth + 1 where control falls from an instruction, else 0.
-fn falling(flow: Flow, depth: usize) -> usize
+fn falling_from(flow: Flow, depth: usize) -> usize
     requires { ⌜ depth ≤ 255 ⌝ }
     ensures { λ r. ⌜ r ≡ cond (fallsBy flow) (depth + 1) 0 ⌝ }
 {
@@ -128,7 +129,7 @@ fn moved(
     Progress {
         refusal: 0,
         at: p.at + n,
-        falls: falling(flow, after),
+        falling: falling_from(flow, after),
         need: larger(need, call_need(needs, callee, depth, flow)),
         count: p.count + 1,
     }
@@ -138,7 +139,7 @@ fn moved(
 fn instruction_at(
     limits: Limits,
     base: u16,
-    starts: &[u16; 32],
+    begins: &[u16; 32],
     needs: &[u16; 32],
     r: Routine,
     marks: &mut [u16],
@@ -148,13 +149,13 @@ fn instruction_at(
     n: usize,
 ) -> Progress
     requires { ⌜ (r .index < 32) × (r .start ≤ 4096) × (r .end ≤ 4096) × (p .at + n ≤ 4096) × (p .count ≤ 4096) × (depth ≤ 65535) ⌝ }
-    ensures { λ x. ⌜ ((image : List ℕ) → base ≡ baseOf image → Begins image (now (starts .entry)) (r .index) → decodedAt image limits (now (needs .entry)) r (now (marks .entry)) p depth (Found i n) ≡ (x, now (marks .exit))) ⌝ }
+    ensures { λ x. ⌜ ((image : List ℕ) → base ≡ baseOf image → Begins image (now (begins .entry)) (r .index) → decodedAt image limits (now (needs .entry)) r (now (marks .entry)) p depth (Found i n) ≡ (x, now (marks .exit))) ⌝ }
 {
     let e = effect_of(i);
     let flow = e.flow;
     let at = p.at;
     let next = at + n;
-    let callee = called_by(starts, base, r.index, next, flow);
+    let callee = called_by(begins, base, r.index, next, flow);
     let refusal = instruction_check(limits, base, &marks[..], r, at, depth, n, e, callee);
     if refusal != 0 {
         return refused(p, refusal);
@@ -171,22 +172,22 @@ fn start_at(
     plain: &[u8; 256],
     after_72: &[u8; 256],
     after_90: &[u8; 256],
-    starts: &[u16; 32],
+    begins: &[u16; 32],
     needs: &[u16; 32],
     r: Routine,
     marks: &mut [u16],
     p: Progress,
 ) -> Progress
-    requires { ⌜ Setting (now image) limits layout (now plain) (now after_72) (now after_90) (now starts) × Ready layout (now marks) r p ⌝ }
+    requires { ⌜ Setting (now image) limits layout (now plain) (now after_72) (now after_90) (now begins) × Ready layout (now marks) r p ⌝ }
     ensures { λ x. ⌜ startAt (now (image .entry)) limits (now (needs .entry)) r (now (marks .entry)) p ≡ (x, now (marks .exit)) ⌝ }
 {
     let at = p.at;
     let mark = wide(marks[at]);
-    let refusal = first(reach_check(p.falls, mark), agree_check(p.falls, mark));
+    let refusal = first(reach_check(p.falling, mark), agree_check(p.falling, mark));
     if refusal != 0 {
         return refused(p, refusal);
     }
-    let entry = larger(p.falls, mark);
+    let entry = larger(p.falling, mark);
     marks[at] = entry as u16;
     let d = decode_at(image, layout.code, r, at, plain, after_72, after_90);
     let Decoded::Found(i, n) = d else {
@@ -195,7 +196,7 @@ fn start_at(
     instruction_at(
         limits,
         layout.base,
-        starts,
+        begins,
         needs,
         r,
         marks,
@@ -206,6 +207,19 @@ fn start_at(
     )
 }
 
+// A routine's first byte is always reached, at depth 0.
+fn entered(r: Routine, count: usize) -> Progress
+    ensures { λ x. ⌜ x ≡ enteredAt r count ⌝ }
+{
+    Progress {
+        refusal: 0,
+        at: r.start,
+        falling: 1,
+        need: 0,
+        count,
+    }
+}
+
 // The starts of the next routine, to its end or to the first refusal.
 fn sweep_routine(
     image: &[u8],
@@ -214,11 +228,11 @@ fn sweep_routine(
     plain: &[u8; 256],
     after_72: &[u8; 256],
     after_90: &[u8; 256],
-    starts: &[u16; 32],
+    begins: &[u16; 32],
     marks: &mut [u16],
     s: Sweep,
 ) -> Progress
-    requires { ⌜ Setting (now image) limits layout (now plain) (now after_72) (now after_90) (now starts) × Between (now image) layout (now marks) s × (s .index < layout .count) ⌝ }
+    requires { ⌜ Setting (now image) limits layout (now plain) (now after_72) (now after_90) (now begins) × Between (now image) layout (now marks) s × (s .index < layout .count) ⌝ }
     ensures { λ x. ⌜ routineSwept (now (image .entry)) limits (now (marks .entry)) s ≡ (x, now (marks .exit)) ⌝ }
     ensures { λ x. ⌜ Ended (endOf (now (image .entry)) (s .index)) (s .index) x ⌝ }
 {
@@ -229,13 +243,7 @@ fn sweep_routine(
         start: s.at,
         end,
     };
-    let mut p = Progress {
-        refusal: 0,
-        at: s.at,
-        falls: 1,
-        need: 0,
-        count: s.count,
-    };
+    let mut p = entered(r, s.count);
     while p.at < end {
         p = start_at(
             image,
@@ -244,7 +252,7 @@ fn sweep_routine(
             plain,
             after_72,
             after_90,
-            starts,
+            begins,
             &needs,
             r,
             marks,
@@ -296,10 +304,10 @@ pub fn sweep_routines(
     plain: &[u8; 256],
     after_72: &[u8; 256],
     after_90: &[u8; 256],
-    starts: &[u16; 32],
+    begins: &[u16; 32],
     marks: &mut [u16],
 ) -> Sweep
-    requires { ⌜ Setting (now image) limits layout (now plain) (now after_72) (now after_90) (now starts) × (length (now marks) ≡ layout .size) ⌝ }
+    requires { ⌜ Setting (now image) limits layout (now plain) (now after_72) (now after_90) (now begins) × (length (now marks) ≡ layout .size) ⌝ }
     ensures { λ r. ⌜ routinesFrom (countOf (now (image .entry))) (now (image .entry)) limits (now (marks .entry)) begun ≡ (r, now (marks .exit)) ⌝ }
     ensures { λ r. ⌜ Swept r ⌝ }
 {
@@ -319,7 +327,7 @@ pub fn sweep_routines(
             plain,
             after_72,
             after_90,
-            starts,
+            begins,
             marks,
             s,
         );

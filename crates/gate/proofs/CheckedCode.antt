@@ -2,7 +2,7 @@
 -- depth d; each routine has a need.
 use Prim.Native.Nat.{ℕ, _+_, _≤_, _<_}
 use mathlib.Core.Path.{_≡_, refl}
-use mathlib.Core.Bool.{true, false}
+use mathlib.Core.Bool.{true}
 use mathlib.Core.List.{List}
 use native.Mathlib.Omega.{arith}
 use lib.ListN.{drop}
@@ -11,14 +11,14 @@ use Rattle.stm8.specs.Effects.{effect}
 use Rattle.stm8.specs.declared.Instruction.{Instruction}
 use Rattle.stm8.specs.declared.Decoded.the-variants.{Found}
 use Rattle.stm8.specs.declared.Flow.{Flow}
-use Rattle.stm8.specs.declared.Effect.{Effect}
 use Rattle.image.specs.declared.Limits.{Limits}
 use Rattle.image.specs.Image.{baseOf, countOf, sizeOf, codeOf, startOf}
 use Rattle.image.specs.Rules.{LimitsRules, ImageRules}
-use Rattle.checker.specs.Depth.{movesDepth, popped, pushed, after, falls}
+use Rattle.checker.specs.Depth.{falls}
 use Rattle.acceptance.specs.Rules.{Start, Calls, absolute, near, InstructionRules, InstructionUse, calling, reportedNeed}
 use Rattle.acceptance.proofs.Starts.{same-found}
 use Rattle.acceptance.proofs.Callees.{one-routine}
+use Rattle.acceptance.proofs.Flows.{call-depth}
 
 -- at a start stands an instruction, decoded as the machine does, that meets the rules; the routine's need covers what it uses
 pub record CheckedAt (image : List ℕ) (limits : Limits) (At : ℕ → ℕ → ℕ → Type 0) (need : ℕ → ℕ) (r o d : ℕ) : Type 0 where
@@ -38,18 +38,10 @@ pub record CheckedCode (image : List ℕ) (limits : Limits) (At : ℕ → ℕ �
   pub at : {r o d : ℕ} → At r o d → CheckedAt image limits At need r o d
   pub room : limits .stack .low + reportedNeed image need ≤ limits .stack .high + 1
 
--- a call falls through, and leaves the depth unchanged
+-- a call falls through
 pub calls-fall : {next address : ℕ} {flow : Flow} → Calls next flow address → falls flow ≡ true
 calls-fall absolute = refl
 calls-fall near = refl
-
-calls-still : {next address : ℕ} {flow : Flow} → Calls next flow address → movesDepth flow ≡ false
-calls-still absolute = refl
-calls-still near = refl
-
-pub after-call : {next address : ℕ} (e : Effect) (d : ℕ) → Calls next (e .flow) address → after e d ≡ d
-unfolding after popped pushed
-after-call e d c = rw (calls-still c) (omega arith)
 
 -- the address after a call of routine r, which stands in routine c at depth d
 pub record AfterCall (image : List ℕ) (At : ℕ → ℕ → ℕ → Type 0) (r c d address : ℕ) : Type 0 where
@@ -84,6 +76,6 @@ module _ (image : List ℕ) (limits : Limits) (At : ℕ → ℕ → ℕ → Type
       record {
         to = h .offset + k .size;
         here = rw (same .1) at (h .here);
-        start = rw (after-call (effect (k .instruction)) d calls) at (k .rules .fall (calls-fall calls));
+        start = rw (call-depth (effect (k .instruction)) d calls) at (k .rules .fall (calls-fall calls));
         covered = rw who at (k .covered (calling calls (callee .1)));
       }

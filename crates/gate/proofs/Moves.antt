@@ -13,7 +13,7 @@ use Rattle.stm8.specs.declared.Place.the-variants.{Nowhere, Direct, OnStack, Pu
 use Rattle.stm8.specs.declared.Effect.{Effect}
 use Rattle.image.specs.declared.Limits.{Limits}
 use Rattle.image.specs.Rules.{Within, LimitsRules}
-use Rattle.image.proofs.Granting.{ends-granted}
+use Rattle.image.proofs.Granting.{within-granted}
 use Rattle.machine.specs.Step.{moveTrap, storeTrap, spAfter, bytesOfWidth, memoryAfter}
 use Rattle.machine.proofs.Stores.{sets-other, bytes-length, size-kept}
 use Rattle.machine.proofs.EffectForms.{PushesOwn}
@@ -33,9 +33,7 @@ module _ (limits : Limits) (areas : LimitsRules limits) (total need sp d : ℕ) 
   pub store-passes : (place : Place) → StoreRules limits d place → storeTrap limits sp place ≡ 0
   unfolding storeTrap
   store-passes Nowhere h = refl
-  store-passes (Direct address w) h =
-      let some = wide-some w in
-      rw (ends-granted limits address (bytesWide w) (h .0) (omega (arith, h .1))) (unless-pass 25)
+  store-passes (Direct address w) h = rw (within-granted limits address (bytesWide w) (wide-some w) h) (unless-pass 25)
   store-passes (OnStack f w) h =
       under-pass f 1 25 (h .0) & under-pass (limits .stack .high + 1) (sp + f + bytesWide w) 25 (omega (arith, h .1, wide-some w))
   store-passes (Pushed w) h = refl
@@ -54,7 +52,9 @@ module _ (limits : Limits) (areas : LimitsRules limits) (total need sp d : ℕ) 
     kept Nowhere value memory h p address grant stack = refl
     kept (Direct a w) value memory h p address grant stack =
         sets-other (bytesOfWidth w value) memory a address
-        (λ low high. grant (record { above = omega (arith, h .0); below = omega (arith, h .1, bytes-length w value, wide-some w) }))
+        (λ low high.
+        let there : a + (address - a) ≡ address = omega arith in
+        grant (rw there at (h (address - a) (omega (arith, bytes-length w value)))))
     kept (OnStack f w) value memory h p address grant stack =
         sets-other (bytesOfWidth w value) memory (sp + f) address
         (λ low high. stack (omega arith) (omega (arith, h .1, bytes-length w value, wide-some w)))

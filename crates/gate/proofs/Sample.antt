@@ -48,7 +48,7 @@ unfolding Check.checked Folds.firstIn Folds.total Checks.first Checks.both Check
     Validation.layoutCheck Validation.refusal Validation.validated Depth.popped Depth.pushed Depth.after Sweep.reachCheck Sweep.agreeCheck
     Sweep.insideCheck Sweep.depthCheck Sweep.storeCheck Sweep.jumpCheck Sweep.beginning Sweep.callee Sweep.callCheck Sweep.flowCheck
     Sweep.offEndCheck Sweep.instructionCheck Sweep.moved Sweep.decodedAt Sweep.bytesAt Sweep.startAt Sweep.startsFrom Sweep.routineSwept
-    Sweep.routinesFrom Check.swept Check.reportedNeed Check.verdict Check.codeChecked
+    Sweep.routinesFrom Check.swept Check.verdict Check.codeChecked
 sample-accepted = refl
 
 -- every element is below 256

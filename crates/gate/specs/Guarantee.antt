@@ -9,7 +9,7 @@ use lib.ListN.{length, getD}
 use Rattle.image.specs.declared.Area.{Area}
 use Rattle.image.specs.declared.Limits.{Limits}
 use Rattle.image.specs.Image.{baseOf, countOf}
-use Rattle.image.specs.Rules.{Within}
+use Rattle.image.specs.Access.{Granted}
 use Rattle.image.specs.Validation.{refusal}
 use Rattle.machine.specs.declared.StepAnswer.the-variants as Step
 use Rattle.machine.specs.declared.RunAnswer.the-variants as Run
@@ -54,7 +54,7 @@ pub record InTop (stack : Area) (n address : ℕ) : Type 0 where
 -- outside the grant and the top n bytes of the stack area every byte is what it was before
 pub record Unchanged (limits : Limits) (n : ℕ) (before after : List ℕ) : Type 0 where
   pub size : length after ≡ length before
-  pub same : (address : ℕ) → (Within (limits .grant) address → ⊥) → (InTop (limits .stack) n address → ⊥) →
+  pub same : (address : ℕ) → (Granted limits address → ⊥) → (InTop (limits .stack) n address → ⊥) →
       getD after address 0 ≡ getD before address 0
 
 -- what the guarantee promises of a state, a sentence each

@@ -1,5 +1,5 @@
 pub mod Image
+pub mod Rules
 pub mod Access
 pub mod Validation
-pub mod Rules
 pub mod ValidLayout

@@ -4,6 +4,7 @@ use Prim.Native.Nat.{ℕ, _+_, _%_}
 use mathlib.Core.Bool.{Bool, false, not}
 use mathlib.Core.List.{List}
 use Rattle.numbers.specs.Words.{word, high, low}
+use Rattle.stm8.specs.IndexRegisters.{otherOf}
 use Rattle.stm8.specs.declared.Register.{Register}
 use Rattle.stm8.specs.declared.Register.the-variants.{X, Y}
 use Rattle.stm8.specs.declared.Half.{Half}
@@ -148,10 +149,6 @@ halfOf High w = high w
 abbrev pub withHalf : Half → ℕ → ℕ → ℕ
 withHalf Low w n = word (high w) n
 withHalf High w n = word n (low w)
-
-abbrev pub otherOf : Register → Register
-otherOf X = Y
-otherOf Y = X
 
 abbrev pub exchanged : Registers → Computed
 exchanged regs = record { a = regs .a; x = regs .y; y = regs .x; cc = regs .cc; stored = 0; taken = false }

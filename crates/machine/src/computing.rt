@@ -2,7 +2,8 @@
 ghost use mathlib.Core.Path.{_≡_};
 ghost use Rattle.arithmetic.specs.Bits.{isSet};
 ghost use Rattle.arithmetic.specs.BitOperations.{BTJ};
-ghost use Rattle.machine.specs.Computing.{testing, bitHolds, otherOf, computed};
+ghost use Rattle.stm8.specs.IndexRegisters.{otherOf};
+ghost use Rattle.machine.specs.Computing.{testing, bitHolds, computed};
 use crate::Computed;
 use crate::Registers;
 use crate::operations::bit_holds;

@@ -35,7 +35,7 @@ unfolding xor Bits.bit Checks.first Checks.both Checks.under Checks.unless Check
     Validation.lengthsCheck Validation.layoutCheck Validation.refusal Validation.validated Depth.popped Depth.pushed Depth.after
     Sweep.reachCheck Sweep.agreeCheck Sweep.insideCheck Sweep.depthCheck Sweep.storeCheck Sweep.jumpCheck Sweep.beginning Sweep.callee
     Sweep.callCheck Sweep.flowCheck Sweep.offEndCheck Sweep.instructionCheck Sweep.moved Sweep.decodedAt Sweep.bytesAt Sweep.startAt
-    Sweep.startsFrom Sweep.routineSwept Sweep.routinesFrom Check.swept Check.reportedNeed Check.verdict Check.codeChecked Check.checked
+    Sweep.startsFrom Sweep.routineSwept Sweep.routinesFrom Check.swept Check.verdict Check.codeChecked Check.checked
     Reading.readByte Computing.computed Step.spTrap Step.pcTrap Step.moveTrap Step.storeTrap Step.callTrap Step.effectTrap Step.pcAfter
     Step.memoryAfter Step.made Step.decodedStep Step.stepValid Step.stepRefusal Step.stepped
 all-hold = refl

@@ -9,8 +9,8 @@ use denote.Ref.{now}
 use Rattle.checker.proofs.check_code.Statement.{statement}
 use Rattle.checker.proofs.check_code.Tie as tie
 
-routine-starts-requires : tie.Need-routine-starts-requires
-routine-starts-requires c κs =
+routine-begins-requires : tie.Need-routine-begins-requires
+routine-begins-requires c κs =
     let c4 = c .before .before .before .before in
     let c8 = c4 .before .before .before .before in
     let valid = c8 .before .pre .0 in
@@ -23,8 +23,13 @@ sweep-routines-requires c κs =
     let c12 = c8 .before .before .before .before in (
       record {
         valid = c12 .before .before .before .pre .0;
-        tables = record { plain-is = c8 .plain-lengths .ensures; after72-is = c4 .before .before .before .after-72-lengths .ensures; after90-is = c4 .before .before .after-90-lengths .ensures };
-        begins = c4 .before .routine-starts .ensures;
+        tables =
+            record {
+              plain-is = c8 .plain-lengths .ensures;
+              after72-is = c4 .before .before .before .after-72-lengths .ensures;
+              after90-is = c4 .before .before .after-90-lengths .ensures;
+            };
+        routines = c4 .before .routine-begins .ensures;
       },
       ap length (c8 .before .before .before .clear .ensures) ∙ length-replicate _ 0 ∙ c12 .before .before .before .pre .1,
     )
@@ -44,9 +49,10 @@ returns c =
     let c12 = c8 .before .before .before .before in
     let c16 = c12 .before .before .before .before in
     let c20 = c16 .before .before .before .before in
-    let valid = c20 .before .before .before .pre .0 in
-    code-checked _ _ (now (c20 .before .before .before .args .marks)) _ _ _ _ _ (c16 .before .before .before .clear .ensures) (c20 .before .before .before .pre .1 ∙ size-is _ _ _ valid) (c4 .before .before .before .sweep-routines .ensures .0)
-    (c4 .verdict-of .ensures _ (count-is _ _ _ valid)) (c .before .before .clear-refused .ensures)
+    let start = c20 .before .before .before in
+    let valid = start .pre .0 in
+    code-checked _ _ (now (start .args .marks)) _ _ _ _ _ (c16 .before .before .before .clear .ensures) (start .pre .1 ∙ size-is _ _ _ valid)
+    (c4 .before .before .before .sweep-routines .ensures .0) (c4 .verdict-of .ensures _ (count-is _ _ _ valid)) (c .before .before .clear-refused .ensures)
 
 pub check-code-spec : {M : Type 1} → statement M
 check-code-spec =
@@ -56,7 +62,7 @@ check-code-spec =
     (λ c κs. search needs)
     (λ c κs. search needs)
     (λ c κs. search needs)
-    routine-starts-requires
+    routine-begins-requires
     sweep-routines-requires
     verdict-of-requires
     (λ c κs. search needs)

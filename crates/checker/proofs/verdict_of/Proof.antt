@@ -30,13 +30,17 @@ add-if2-2 c =
 
 returns-2 : tie.Need-returns-2
 returns-2 c =
-    let c4 = c .before .before .before .before in
-    λ image e. verdict-16 image (c4 .before .before .before .args .limits) (c4 .before .before .before .args .t3) (c4 .before .before .if1 .left) _ (need-reported image (c4 .before .before .before .args .limits) (c4 .before .before .before .args .t3) _ e) (c .if2 .taken)
+    let c6 = c .before .before .before .before .before .before in
+    let start = c6 .before .args in
+    λ image e.
+    verdict-16 image (start .limits) (start .t3) (c6 .if1 .left) _ (need-reported image (start .limits) (start .t3) _ e) (c .if2 .taken)
 
 returns-3 : tie.Need-returns-3
 returns-3 c =
-    let c4 = c .before .before .before .before in
-    λ image e. verdict-accepted image (c4 .before .before .before .args .limits) (c4 .before .before .before .args .t3) (c4 .before .before .if1 .left) _ (need-reported image (c4 .before .before .before .args .limits) (c4 .before .before .before .args .t3) _ e) (c .if2 .left)
+    let c6 = c .before .before .before .before .before .before in
+    let start = c6 .before .args in
+    λ image e.
+    verdict-accepted image (start .limits) (start .t3) (c6 .if1 .left) _ (need-reported image (start .limits) (start .t3) _ e) (c .if2 .left)
 
 pub verdict-of-spec : {M : Type 1} → statement M
 verdict-of-spec =

@@ -12,7 +12,8 @@ returns c =
     let c4 = c .before .before .before .before in
     let start = c4 .args in
     c .decode-by .ensures ∙
-    decoded-at (now (start .image)) (start .code) (start .r) (start .at) _ _ _ (c4 .pre .0) (λ k. omega (arith, c .before .before .before .shared-slice-known .given k)) (c4 .pre .3)
+    decoded-at (now (start .image)) (start .code) (start .r) (start .at) _ _ _ (c4 .pre .0)
+    (λ k. omega (arith, c .before .before .before .shared-slice-known .given k)) (c4 .pre .3)
 
 pub decode-at-spec : {M : Type 1} → statement M
 decode-at-spec =

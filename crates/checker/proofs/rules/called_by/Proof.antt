@@ -10,7 +10,8 @@ returns-4 c =
 
 returns-5 : tie.Need-returns-5
 returns-5 c =
-    (λ image e begins. rw (c .before .before .before .flow2 .given .1, ← e, ← c .before .target .ensures .0) (c .callee2 .ensures .0 image e begins), c .callee2 .ensures .1)
+    let flow = c .before .before .before .flow2 .given .1 in
+    (λ image e begins. rw (flow, ← e, ← c .before .target .ensures .0) (c .callee2 .ensures .0 image e begins), c .callee2 .ensures .1)
 
 pub called-by-spec : {M : Type 1} → statement M
 called-by-spec =

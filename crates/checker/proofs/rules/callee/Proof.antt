@@ -11,33 +11,40 @@ use Rattle.checker.proofs.rules.callee.Statement.{statement}
 use Rattle.checker.proofs.rules.callee.Tie as tie
 
 abbrev Inv-loop : tie.InvT-loop
-Inv-loop starts base r address base' offset j₀ j =
-    (j ≤ r) × ((image : List ℕ) → Begins image starts r → beginning image offset (r - j) j ≡ beginning image offset r 0)
+Inv-loop begins base r address base' offset j₀ j =
+    (j ≤ r) × ((image : List ℕ) → Begins image begins r → beginning image offset (r - j) j ≡ beginning image offset r 0)
 
 abbrev μ-loop : tie.MeasureT-loop
-μ-loop starts base r address base' offset j₀ j = r - j
+μ-loop begins base r address base' offset j₀ j = r - j
 
 returns-2 : tie.Need-returns-2 Inv-loop μ-loop
 returns-2 c =
-    let c4 = c .before .before .before .before in (
+    let c4 = c .before .before .before .before in
+    let inside = c .before .before .before .loop-test .taken in (
       λ image e begins.
-          let here = c .before .wide .ensures .0 ∙ begins _ (c .before .before .before .loop-test .taken) in
-          sym (beginning-stop image _ _ _ _ (c .before .before .before .loop-test .taken) here (c .if2 .taken)) ∙ c4 .loop .inv .1 image begins ∙ sym (callee-above image _ _ _ e (c4 .before .if1 .left)),
+          let here = c .before .wide .ensures .0 ∙ begins _ inside in
+          sym (beginning-stop image _ _ _ _ inside here (c .if2 .taken)) ∙ c4 .loop .inv .1 image begins ∙
+          sym (callee-above image _ _ _ e (c4 .before .if1 .left)),
       omega arith,
     )
 
 loop-again : tie.Need-loop-again Inv-loop μ-loop
 loop-again c =
-    let c4 = c .before .before .before .before in (
+    let c4 = c .before .before .before .before in
+    let inside = c .before .before .before .loop-test .taken in (
       omega arith,
       λ image begins.
-          let here = c .before .wide .ensures .0 ∙ begins _ (c .before .before .before .loop-test .taken) in
-          sym (beginning-more image _ _ _ _ (c .before .before .before .loop-test .taken) here (c .if2 .left)) ∙ c4 .loop .inv .1 image begins,
+          let here = c .before .wide .ensures .0 ∙ begins _ inside in
+          sym (beginning-more image _ _ _ _ inside here (c .if2 .left)) ∙ c4 .loop .inv .1 image begins,
     )
 
 returns-3 : tie.Need-returns-3 Inv-loop μ-loop
 returns-3 c =
-    (λ image e begins. sym (beginning-done image _ _ _ (c .loop-test .left)) ∙ c .before .loop .inv .1 image begins ∙ sym (callee-above image _ _ _ e (c .before .before .if1 .left)), omega arith)
+    let above = c .before .before .if1 .left in (
+      λ image e begins.
+          sym (beginning-done image _ _ _ (c .loop-test .left)) ∙ c .before .loop .inv .1 image begins ∙ sym (callee-above image _ _ _ e above),
+      omega arith,
+    )
 
 pub callee-spec : {M : Type 1} → statement M
 callee-spec =

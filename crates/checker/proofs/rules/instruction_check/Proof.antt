@@ -18,9 +18,11 @@ returns c =
       λ image e ec.
           let start = c8 .before .before .before .args in
           let inside : start .at + start .n - (start .at + 1) ≡ start .n - 1 = omega arith in
-          rw (c .first4 .ensures, c .before .off-end-check .ensures, c .before .before .first3 .ensures, c .before .before .before .flow-check .ensures image e ec, c4 .first2 .ensures)
-          (rw (c4 .before .store-check .ensures, c4 .before .before .first .ensures, c4 .before .before .before .depth-check .ensures, c8 .inside-check .ensures, c8 .before .after .ensures .0, inside)
-          (simp (first-assoc, first-none))),
+          let c2 = c .before .before in
+          let c6 = c4 .before .before in
+          rw (c .first4 .ensures, c .before .off-end-check .ensures, c2 .first3 .ensures, c2 .before .flow-check .ensures image e ec, c4 .first2 .ensures)
+          (rw (c4 .before .store-check .ensures, c6 .first .ensures, c6 .before .depth-check .ensures)
+          (rw (c8 .inside-check .ensures, c8 .before .after .ensures .0, inside) (simp (first-assoc, first-none)))),
       λ passed.
           let three = first-zero _ _ (sym (c .first4 .ensures) ∙ passed) .0 in
           let two = first-zero _ _ (sym (c .before .before .first3 .ensures) ∙ three) .0 in

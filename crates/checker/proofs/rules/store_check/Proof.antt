@@ -21,7 +21,8 @@ returns-3 : tie.Need-returns-3
 unfolding storeCheck
 returns-3 c =
     let c4 = c .before .before .before .before in
-    rw (c .first .ensures, c .before .under2 .ensures, c .before .before .bytes-wide2 .ensures, c .before .before .before .under .ensures, c4 .before .place2 .given .1)
+    let c2 = c .before .before in
+    rw (c .first .ensures, c .before .under2 .ensures, c2 .bytes-wide2 .ensures, c2 .before .under .ensures, c4 .before .place2 .given .1)
 
 returns-4 : tie.Need-returns-4
 unfolding storeCheck

@@ -11,7 +11,8 @@ returns c =
     let c4 = c .before .before .before .before in
     let c8 = c4 .before .before .before .before in
     λ image r ec.
-    rw (c .before .larger3 .ensures, c .before .before .call-need .ensures image (r .index) (c8 .args .p .at + c8 .args .n) ec, c .before .before .before .falling .ensures)
+    let c2 = c .before .before in
+    rw (c .before .larger3 .ensures, c2 .call-need .ensures image (r .index) (c8 .args .p .at + c8 .args .n) ec, c2 .before .falling-from .ensures)
     (rw (c4 .before .larger2 .ensures, c4 .before .before .larger .ensures, c4 .before .before .before .after .ensures .0))
 
 pub moved-spec : {M : Type 1} → statement M

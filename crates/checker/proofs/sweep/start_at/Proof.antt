@@ -12,7 +12,7 @@ use Rattle.image.proofs.Layouts.{valid-bounds, base-is, code-is}
 use Rattle.checker.specs.Sweep.{refused, decodedAt, startAt}
 use Rattle.checker.specs.declared.sweep.Routine.{Routine}
 use Rattle.checker.specs.declared.sweep.Progress.{Progress}
-use Rattle.checker.proofs.Starts.{start-refused, start-reached, found-inside}
+use Rattle.checker.proofs.Starts.{start-refused, start-reached, found-in-routine}
 use borrow.Author.Needs.{needs}
 use native.Mathlib.Omega.{arith}
 use denote.Ref.{now}
@@ -31,13 +31,15 @@ missed image limits needs r marks p depth Truncated k = refl
 -- past the first test the start is reached, and its bytes are decoded
 reached : (a : tie.After-decode-at) (depth : ℕ) → depth ≡ a .before .larger .result - 1 →
     let start = a .before .before .before .before .before .before .before .before .before .before .args in
+    let marks = set (now (start .marks)) (start .p .at) (a .before .larger .result) in
     startAt (now (start .image)) (start .limits) (now (start .needs)) (start .r) (now (start .marks)) (start .p) ≡
-    decodedAt (now (start .image)) (start .limits) (now (start .needs)) (start .r) (set (now (start .marks)) (start .p .at) (a .before .larger .result)) (start .p) depth (a .decode-at .result)
+    decodedAt (now (start .image)) (start .limits) (now (start .needs)) (start .r) marks (start .p) depth (a .decode-at .result)
 reached a depth e =
+    let a2 = a .before .before in
     let a4 = a .before .before .before .before in
     let start = a4 .before .before .before .before .before .before .args in
     start-reached (now (start .image)) (start .limits) (now (start .needs)) (start .r) (now (start .marks)) (start .p) _ _ _ _
-    (a4 .before .before .wide .ensures .0) (a4 .before .reach-check .ensures) (a4 .agree-check .ensures) (a .before .before .before .first .ensures) (a .before .before .if1 .left)
+    (a4 .before .before .wide .ensures .0) (a4 .before .reach-check .ensures) (a4 .agree-check .ensures) (a2 .before .first .ensures) (a2 .if1 .left)
     _ _ _ (a .before .larger .ensures) e (a .decode-at .ensures)
 
 returns : tie.Need-returns
@@ -46,7 +48,8 @@ returns c =
     let c8 = c4 .before .before .before .before in
     let start = c8 .before .args in
     start-refused (now (start .image)) (start .limits) (now (start .needs)) (start .r) (now (start .marks)) (start .p) _ _ _ _
-    (c4 .before .wide .ensures .0) (c4 .reach-check .ensures) (c .before .before .before .agree-check .ensures) (c .before .before .first .ensures) (c .before .if1 .taken) _ (c .refused .ensures)
+    (c4 .before .wide .ensures .0) (c4 .reach-check .ensures) (c .before .before .before .agree-check .ensures) (c .before .before .first .ensures)
+    (c .before .if1 .taken) _ (c .refused .ensures)
 
 decode-at-requires : tie.Need-decode-at-requires
 decode-at-requires c κs =
@@ -65,9 +68,10 @@ returns-2 c =
     let a = c .before .before .before in
     let start = c12 .before .args in
     let depth = a .before .larger .result - 1 in
-    let number = missed (now (start .image)) (start .limits) (now (start .needs)) (start .r) (set (now (start .marks)) (start .p .at) (a .before .larger .result))
-    (start .p) depth (a .decode-at .result) (c .before .before .match .keys2) in
-    reached a depth refl ∙ number ∙ ap (λ x. (x, set (now (start .marks)) (start .p .at) (a .before .larger .result)))
+    let marks = set (now (start .marks)) (start .p .at) (a .before .larger .result) in
+    let number = missed (now (start .image)) (start .limits) (now (start .needs)) (start .r) marks (start .p) depth (a .decode-at .result)
+    (c .before .before .match .keys2) in
+    reached a depth refl ∙ number ∙ ap (λ x. (x, marks))
     (sym (c .refused2 .ensures ∙ ap (λ k. refused (start .p) k) (c .before .decoding-number .ensures)))
 
 instruction-at-requires : tie.Need-instruction-at-requires
@@ -79,13 +83,14 @@ instruction-at-requires c κs =
     let setting = c12 .before .before .before .pre .0 in
     let ready = c12 .before .before .before .pre .1 in
     let bounds = valid-bounds _ _ _ (setting .valid) in
-    let inside = found-inside (now (start .image)) (start .r) (start .p .at) _ _ _ (c4 .before .decode-at .ensures) (c .before .before .before .d .given .1) in (
+    let found = c .before .before .before .d .given .1 in
+    let inside = found-in-routine (now (start .image)) (start .r) (start .p .at) _ _ _ (c4 .before .decode-at .ensures) found in (
       omega (arith, ready .index, bounds .count .1),
       omega (arith, ready .start, ready .at, ready .end, bounds .size .1),
       omega (arith, ready .end, bounds .size .1),
       omega (arith, inside .1, ready .at, ready .end, bounds .size .1),
       omega (arith, ready .count, ready .at, ready .end, bounds .size .1),
-      omega (arith, c .less .ensures, c4 .before .before .larger .ensures, c8 .before .before .before .wide .ensures .1, ready .falls),
+      omega (arith, c .less .ensures, c4 .before .before .larger .ensures, c8 .before .before .before .wide .ensures .1, ready .falling),
     )
 
 same-length-2 : tie.Need-same-length-2
@@ -94,7 +99,8 @@ same-length-2 c =
     let c8 = c4 .before .before .before .before in
     let c12 = c8 .before .before .before .before in
     let c16 = c12 .before .before .before .before in
-    c .before .before .instruction-at .kept .1 .1 .1 .1 .1 .0 ∙ length-set (now (c16 .before .before .args .marks)) (c16 .before .before .args .p .at) (c8 .before .larger .result)
+    let start = c16 .before .before .args in
+    c .before .before .instruction-at .kept .1 .1 .1 .1 .1 .0 ∙ length-set (now (start .marks)) (start .p .at) (c8 .before .larger .result)
 
 returns-3 : tie.Need-returns-3
 returns-3 c =
@@ -105,9 +111,11 @@ returns-3 c =
     let start = c16 .before .before .args in
     let setting = c16 .before .before .pre .0 in
     let ready = c16 .before .before .pre .1 in
-    reached c8 _ (c .before .before .before .less .ensures) ∙
-    ap (λ d. decodedAt (now (start .image)) (start .limits) (now (start .needs)) (start .r) (set (now (start .marks)) (start .p .at) (c8 .before .larger .result)) (start .p) (c .before .before .before .less .result) d) (c4 .before .before .d .given .1) ∙
-    c .before .before .instruction-at .ensures (now (start .image)) (base-is _ _ _ (setting .valid)) (λ k h. setting .begins k (omega (arith, ready .index)))
+    let marks = set (now (start .marks)) (start .p .at) (c8 .before .larger .result) in
+    let less = c .before .before .before .less in
+    reached c8 _ (less .ensures) ∙
+    ap (decodedAt (now (start .image)) (start .limits) (now (start .needs)) (start .r) marks (start .p) (less .result)) (c4 .before .before .d .given .1) ∙
+    c .before .before .instruction-at .ensures (now (start .image)) (base-is _ _ _ (setting .valid)) (λ k h. setting .routines k (omega (arith, ready .index)))
 
 pub start-at-spec : {M : Type 1} → statement M
 start-at-spec =

@@ -5,24 +5,31 @@ use native.Mathlib.Nat.{sub-zero}
 use Rattle.image.proofs.Measuring.{start-zero, start-inside}
 use Rattle.image.proofs.Layouts.{valid-bounds, count-is, size-is}
 use Rattle.checker.specs.declared.sweep.Sweep.{Sweep}
-use Rattle.checker.proofs.Routines.{Going, going-turns, routines-last, routines-done, zeros-at}
+use Rattle.checker.proofs.Routines.{RoutinesLeft, routines-left-turns, routines-last, routines-done, zeros-at}
 use native.Mathlib.Omega.{arith}
 use denote.Ref.{now}
 use Rattle.checker.proofs.sweep.sweep_routines.Statement.{statement}
 use Rattle.checker.proofs.sweep.sweep_routines.Tie as tie
 
 abbrev Inv-loop : tie.InvT-loop
-Inv-loop image limits layout plain after-72 after-90 starts marks₀ s₀ marks s = Going image limits layout marks₀ marks s
+Inv-loop image limits layout plain after-72 after-90 begins marks₀ s₀ marks s = RoutinesLeft image limits layout marks₀ marks s
 
 abbrev μ-loop : tie.MeasureT-loop
-μ-loop image limits layout plain after-72 after-90 starts marks₀ s₀ marks s = layout .count - s .index
+μ-loop image limits layout plain after-72 after-90 begins marks₀ s₀ marks s = layout .count - s .index
 
 loop-holds : tie.Need-loop-holds Inv-loop μ-loop
 loop-holds c =
     let image = now (c .before .before .args .image) in
     record {
       same = rw (sub-zero, count-is _ _ _ (c .before .before .pre .0 .valid));
-      between = record { index = omega arith; at = sym (start-zero image); count = omega arith; needs = λ k. omega (arith, zeros-at 32 k); cells = c .before .before .pre .1 };
+      between =
+          record {
+            index = omega arith;
+            at = sym (start-zero image);
+            count = omega arith;
+            needs = λ k. omega (arith, zeros-at 32 k);
+            cells = c .before .before .pre .1;
+          };
     }
 
 sweep-routine-requires : tie.Need-sweep-routine-requires Inv-loop μ-loop
@@ -44,9 +51,11 @@ returns c =
     let c12 = c8 .before .before .before .before in
     let g = c8 .before .before .loop .inv in
     let h = c4 .before .before .before .if1 .taken in
-    let ended = c4 .before .sweep-routine .ensures .1 in
+    let routine = c4 .before .sweep-routine in
+    let ended = routine .ensures .1 in
     let bounds = valid-bounds _ _ _ (c12 .before .pre .0 .valid) in (
-      sym (g .same) ∙ routines-last _ _ _ _ _ h _ _ (c4 .before .sweep-routine .ensures .0) (c .before .if2 .taken) ∙ ap (λ x. (x, c4 .before .sweep-routine .last .1 .1 .1 .1 .1 .1 .1 .0)) (sym (c .stopped .ensures)),
+      sym (g .same) ∙ routines-last _ _ _ _ _ h _ _ (routine .ensures .0) (c .before .if2 .taken) ∙
+          ap (λ x. (x, routine .last .1 .1 .1 .1 .1 .1 .1 .0)) (sym (c .stopped .ensures)),
       rw (c .stopped .ensures)
           (record {
             at = omega (arith, ended .at, bounds .ends (c8 .before .before .loop .s .index) h, bounds .size .1);
@@ -72,9 +81,12 @@ loop-again c =
     let c4 = c .before .before .before .before in
     let c8 = c4 .before .before .before .before in
     let c12 = c8 .before .before .before .before in
+    let h = c4 .before .before .before .if1 .taken in
+    let count = count-is _ _ _ (c12 .before .pre .0 .valid) in
+    let routine = c4 .before .sweep-routine in
     rw (c .closed .ensures)
-    (going-turns _ _ _ _ _ _ (c8 .before .before .loop .inv) (c4 .before .before .before .if1 .taken) (count-is _ _ _ (c12 .before .pre .0 .valid)) _ _ (c4 .before .sweep-routine .ensures .0) (c4 .before .sweep-routine .ensures .1) (c .before .if2 .left)
-    (c4 .before .sweep-routine .kept .1 .1 .1 .1 .1 .1 .1 .0))
+    (routines-left-turns _ _ _ _ _ _ (c8 .before .before .loop .inv) h count _ _ (routine .ensures .0) (routine .ensures .1) (c .before .if2 .left)
+    (routine .kept .1 .1 .1 .1 .1 .1 .1 .0))
 
 same-length-2 : tie.Need-same-length-2 Inv-loop μ-loop
 same-length-2 c =
@@ -85,11 +97,12 @@ returns-2 : tie.Need-returns-2 Inv-loop μ-loop
 returns-2 c =
     let c4 = c .before .before .before .before in
     let g = c .before .before .before .loop .inv in
-    let bounds = valid-bounds _ _ _ (c4 .before .before .pre .0 .valid) in
-    let image = now (c4 .before .before .args .image) in (
+    let valid = c4 .before .before .pre .0 .valid in
+    let bounds = valid-bounds _ _ _ valid in
+    let begins = start-inside (now (c4 .before .before .args .image)) (c .before .before .before .loop .s .index) in (
       sym (g .same) ∙ routines-done _ _ _ _ _ (c .if1 .left),
       record {
-        at = omega (arith, g .between .at, start-inside image (c .before .before .before .loop .s .index), size-is _ _ _ (c4 .before .before .pre .0 .valid), bounds .size .1);
+        at = omega (arith, g .between .at, begins, size-is _ _ _ valid, bounds .size .1);
         count = g .between .count;
         needs = λ k. omega (arith, g .between .needs k, g .between .index, bounds .count .1);
       },

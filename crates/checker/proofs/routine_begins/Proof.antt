@@ -1,4 +1,4 @@
--- `checker::routine_starts` meets its contract. The loop's invariant: the routines before k begin where the array says, and routine k begins at `at`.
+-- `checker::routine_begins` meets its contract. The loop's invariant: the routines before k begin where the array says, and routine k begins at `at`.
 use Prim.Native.Nat.{ℕ, _-_, _≤_}
 use mathlib.Core.Path.{_≡_, sym, _∙_}
 use lib.ListN.{length, length-replicate, length-set}
@@ -8,14 +8,14 @@ use Rattle.checker.specs.Internal.{Begins}
 use Rattle.checker.proofs.Routines.{begins-more}
 use native.Mathlib.Omega.{arith}
 use denote.Ref.{now}
-use Rattle.checker.proofs.routine_starts.Statement.{statement}
-use Rattle.checker.proofs.routine_starts.Tie as tie
+use Rattle.checker.proofs.routine_begins.Statement.{statement}
+use Rattle.checker.proofs.routine_begins.Tie as tie
 
 abbrev Inv-loop : tie.InvT-loop
-Inv-loop image count starts₀ k₀ at₀ starts k at = (k ≤ count) × (at ≡ startOf image k) × (length starts ≡ 32) × Begins image starts k
+Inv-loop image count begins₀ k₀ at₀ begins k at = (k ≤ count) × (at ≡ startOf image k) × (length begins ≡ 32) × Begins image begins k
 
 abbrev μ-loop : tie.MeasureT-loop
-μ-loop image count starts₀ k₀ at₀ starts k at = count - k
+μ-loop image count begins₀ k₀ at₀ begins k at = count - k
 
 loop-holds : tie.Need-loop-holds Inv-loop μ-loop
 loop-holds c =
@@ -35,12 +35,12 @@ loop-again c =
     let below = rw (c4 .pre .0) at (c .before .loop-test .taken) in (
       omega arith,
       rw (l .inv .1, c .routine-length .ensures) (sym (start-next image (l .k) below)),
-      length-set (l .starts) (l .k) (l .at) ∙ l .inv .2,
-      begins-more image (l .starts) (l .k) (l .at) (omega (arith, l .inv .2)) (l .inv .1) (l .inv .3),
+      length-set (l .begins) (l .k) (l .at) ∙ l .inv .2,
+      begins-more image (l .begins) (l .k) (l .at) (omega (arith, l .inv .2)) (l .inv .1) (l .inv .3),
     )
 
-pub routine-starts-spec : {M : Type 1} → statement M
-routine-starts-spec =
+pub routine-begins-spec : {M : Type 1} → statement M
+routine-begins-spec =
     tie.close
     (tie.spec
     Inv-loop
