@@ -36,6 +36,6 @@ falls (Call a) = true
 falls (CallRelative n) = true
 falls Return = false
 
--- reported need is 2 + main's need, of the needs of all routines
+-- Reported need is 2 + main's need.
 abbrev pub reportedNeed : List ℕ → (ℕ → ℕ) → ℕ
 reportedNeed image need = 2 + need (mainOf image)
