@@ -16,11 +16,12 @@ use Rattle.gate_c.specs.Cells.{reportCells, registersIn, registerCells, 
 
 pub checked-by : (image marks marks′ : List ℕ) (limits limits′ : Limits) (v : Verdict) (number : ℕ) (report : List ℕ) →
     limits ≡ limits′ → checked image limits marks ≡ (v, marks′) → number ≡ numberOf v → report ≡ reportCells v →
-    (number ≡ numberOf (checked image limits′ marks .0)) × ((report ≡ reportCells (checked image limits′ marks .0)) × (marks′ ≡ checked image limits′ marks .1))
+    (number ≡ numberOf (checked image limits′ marks .0)) ×
+    ((report ≡ reportCells (checked image limits′ marks .0)) × (marks′ ≡ checked image limits′ marks .1))
 checked-by image marks marks′ limits limits′ v number report same c n r = rw (← same, c) (n, (r, refl))
 
-pub started-by : (image marks marks′ memory memory′ cells : List ℕ) (limits limits′ : Limits) (given : Registers) (s : Started) (number : ℕ) (report out : List ℕ) →
-    limits ≡ limits′ → given ≡ registersIn cells →
+pub started-by : (image marks marks′ memory memory′ cells : List ℕ) (limits limits′ : Limits) (given : Registers) (s : Started)
+    (number : ℕ) (report out : List ℕ) → limits ≡ limits′ → given ≡ registersIn cells →
     started image limits marks memory (given .a) (given .x) (given .y) (given .cc) ≡ record { started = s; marks = marks′; memory = memory′ } →
     number ≡ numberOf (s .verdict) → report ≡ reportCells (s .verdict) → out ≡ registerCells (s .registers) →
     startedCells image limits′ marks memory cells ≡ record { number = number; report = report; registers = out; marks = marks′; memory = memory′ }
@@ -38,8 +39,8 @@ stepped-by image memory memory′ cells limits limits′ given s number out same
     let by-cells = rw (same-limits, same-registers) at e in
     rw (by-cells, n, o)
 
-pub ran-by : (budget : ℕ) (image memory memory′ cells : List ℕ) (limits limits′ : Limits) (given : Registers) (r : Ran) (number : ℕ) (out steps : List ℕ) →
-    limits ≡ limits′ → given ≡ registersIn cells → ran budget image limits given memory ≡ (r, memory′) →
+pub ran-by : (budget : ℕ) (image memory memory′ cells : List ℕ) (limits limits′ : Limits) (given : Registers) (r : Ran) (number : ℕ)
+    (out steps : List ℕ) → limits ≡ limits′ → given ≡ registersIn cells → ran budget image limits given memory ≡ (r, memory′) →
     number ≡ runCode (r .answer) → out ≡ registerCells (r .registers) → steps ≡ r .steps ∷ [] →
     ranCells budget image limits′ cells memory ≡ record { number = number; registers = out; steps = steps; memory = memory′ }
 unfolding ranCells

@@ -3,7 +3,8 @@ ghost use mathlib.Core.Path.{_≡_};
 ghost use Rattle.checker.specs.Check.{checked, numberOf};
 ghost use Rattle.stm8.specs.Decoding.{decoded, decodingNumber};
 ghost use mathlib.Core.List.{[], _∷_};
-ghost use Rattle.gate_c.specs.Cells.{limitsBy, registersIn, registerCells, reportCells, stepCode, runCode, decodedLength, instructionText, textCells, startedCells, steppedCells, ranCells};
+ghost use Rattle.gate_c.specs.Cells.{limitsBy, registersIn, registerCells, reportCells, stepCode, runCode};
+ghost use Rattle.gate_c.specs.Cells.{decodedLength, instructionText, textCells, startedCells, steppedCells, ranCells};
 use decoder::decode;
 use decoder::decoding_number;
 use disassembly::disassemble;
@@ -114,7 +115,8 @@ pub extern "C" fn gate_check(
     report: &mut [u16; 3],
 ) -> u8
     ensures { λ r. ⌜ r ≡ numberOf (checked (now (image .entry)) (limitsBy «grant_low» «grant_high» «stack_low» «stack_high») (now (marks .entry)) .0) ⌝ }
-    ensures { λ _. ⌜ now (report .exit) ≡ reportCells (checked (now (image .entry)) (limitsBy «grant_low» «grant_high» «stack_low» «stack_high») (now (marks .entry)) .0) ⌝ }
+    ensures { λ _. ⌜ now (report .exit) ≡
+        reportCells (checked (now (image .entry)) (limitsBy «grant_low» «grant_high» «stack_low» «stack_high») (now (marks .entry)) .0) ⌝ }
     ensures { λ _. ⌜ now (marks .exit) ≡ checked (now (image .entry)) (limitsBy «grant_low» «grant_high» «stack_low» «stack_high») (now (marks .entry)) .1 ⌝ }
 {
     let verdict = check(
@@ -139,7 +141,9 @@ pub extern "C" fn gate_start(
     registers: &mut [u32; 6],
     report: &mut [u16; 3],
 ) -> u8
-    ensures { λ r. ⌜ startedCells (now (image .entry)) (limitsBy «grant_low» «grant_high» «stack_low» «stack_high») (now (marks .entry)) (now (memory .entry)) (now (registers .entry)) ≡ record { number = r; report = now (report .exit); registers = now (registers .exit); marks = now (marks .exit); memory = now (memory .exit) } ⌝ }
+    ensures { λ r. ⌜
+        startedCells (now (image .entry)) (limitsBy «grant_low» «grant_high» «stack_low» «stack_high») (now (marks .entry)) (now (memory .entry)) (now (registers .entry)) ≡
+        record { number = r; report = now (report .exit); registers = now (registers .exit); marks = now (marks .exit); memory = now (memory .exit) } ⌝ }
 {
     let given = registers_in(registers);
     let s = start(
@@ -169,7 +173,8 @@ pub extern "C" fn gate_step(
     memory: &mut [u8],
     registers: &mut [u32; 6],
 ) -> u8
-    ensures { λ r. ⌜ steppedCells (now (image .entry)) (limitsBy «grant_low» «grant_high» «stack_low» «stack_high») (now (registers .entry)) (now (memory .entry)) ≡ record { number = r; registers = now (registers .exit); memory = now (memory .exit) } ⌝ }
+    ensures { λ r. ⌜ steppedCells (now (image .entry)) (limitsBy «grant_low» «grant_high» «stack_low» «stack_high») (now (registers .entry)) (now (memory .entry)) ≡
+        record { number = r; registers = now (registers .exit); memory = now (memory .exit) } ⌝ }
 {
     let s = step(
         image,
@@ -195,7 +200,8 @@ pub extern "C" fn gate_run(
     budget: u32,
     steps: &mut [u32; 1],
 ) -> u8
-    ensures { λ r. ⌜ ranCells budget (now (image .entry)) (limitsBy «grant_low» «grant_high» «stack_low» «stack_high») (now (registers .entry)) (now (memory .entry)) ≡ record { number = r; registers = now (registers .exit); steps = now (steps .exit); memory = now (memory .exit) } ⌝ }
+    ensures { λ r. ⌜ ranCells budget (now (image .entry)) (limitsBy «grant_low» «grant_high» «stack_low» «stack_high») (now (registers .entry)) (now (memory .entry)) ≡
+        record { number = r; registers = now (registers .exit); steps = now (steps .exit); memory = now (memory .exit) } ⌝ }
 {
     let ran = run(
         image,

@@ -1,19 +1,13 @@
 //! Document 01's own examples, through the library and through the twin.
 
-use gate_host::{twin, Accepted, Ending, Limits, Refusal, Refused, Registers, Run, Step, Trap, MEMORY_BYTES};
+use gate_host::{slu, twin, Accepted, Ending, Limits, Refusal, Refused, Registers, Run, Step, Trap, MEMORY_BYTES};
 
 const LIMITS: Limits = Limits { grant_low: 0x0000, grant_high: 0x00FF, stack_low: 0x0300, stack_high: 0x03FF };
 
 type Verdict = Result<Accepted, Refused>;
 
 fn image(routines: &[&[u8]]) -> Vec<u8> {
-    let mut file = b"SLU\x00\x01\x80\x00".to_vec();
-    file.push(routines.len() as u8);
-    for routine in routines {
-        file.extend((routine.len() as u16).to_be_bytes());
-    }
-    file.extend(routines.concat());
-    file
+    slu::image_of(0x8000, routines)
 }
 
 /// Both verdicts on an image, which must agree, marks included.
@@ -124,7 +118,7 @@ fn traps_of_the_table() {
 }
 
 #[test]
-fn steps_of_the_paper() {
+fn steps_of_document_01() {
     let memory = vec![0; MEMORY_BYTES];
     let made = |code: &[u8], registers| match step(code, registers, &memory) {
         (Step::Made, after, _) => after,
