@@ -2,8 +2,8 @@
  *
  * Every function is total: whatever the bytes, numbers and lengths, it returns, and what it leaves in each cell is said below.
  * What C must see to, as for any pointer: each pointer is not null (where a length is 0 any address that is not null will do),
- * aligned for its type, and leads to as many cells as its length, or its array type, says; and no cell that a function writes lies
- * in another of its arguments.
+ * aligned for its type, and leads to as many cells as its length, or its array type, says; and no cell that a function writes
+ * lies in another of its arguments.
  *
  * Numbers are those of document 01; addresses are 16 bits, PC has 24. Limits are four addresses, ends included. */
 #ifndef GATE_H
@@ -92,8 +92,8 @@ uint8_t gate_run(const uint8_t *image, size_t image_length,
                  uint32_t budget, uint32_t steps[1]);
 
 /* Decodes the instruction at the front of bytes. The answer is 0, 8 (outside the set) or 9 (the bytes end too soon).
- * length: the instruction's bytes, 0 where there is none. text: the instruction as it stands at address, in the manual's assembler
- * notation, and 0 in every cell after it; all 0 where there is none. */
+ * length: the instruction's bytes, 0 where there is none. text: the instruction as it stands at address, in the manual's
+ * assembler notation, and 0 in every cell after it; all 0 where there is none. */
 uint8_t gate_decode(const uint8_t *bytes, size_t bytes_length, uint16_t address,
                     uint8_t text[GATE_TEXT_BYTES], size_t length[1]);
 

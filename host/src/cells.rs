@@ -1,5 +1,5 @@
-//! The functions of `include/gate.h` with slices for pointers: the same numbers and the same cells. All unsafe code of this package
-//! is here.
+//! The functions of `include/gate.h` with slices for pointers: the same numbers and the same cells. All unsafe code of this
+//! package is here.
 
 use crate::types::{Limits, TEXT_BYTES};
 
@@ -81,8 +81,8 @@ mod c {
 
 pub fn check(image: &[u8], limits: &Limits, marks: &mut [u16], report: &mut ReportCells) -> u8 {
     // SAFETY: each pointer comes from a reference that lives through the call, so it is not null (an empty slice's neither),
-    // aligned, and leads to as many cells as the length beside it or its array type says. What is written comes from `&mut`, so it
-    // lies in no other argument.
+    // aligned, and leads to as many cells as the length beside it or its array type says. What is written comes from `&mut`, so
+    // it lies in no other argument.
     unsafe {
         c::gate_check(
             image.as_ptr(),

@@ -114,10 +114,12 @@ pub extern "C" fn gate_check(
     marks: &mut [u16],
     report: &mut [u16; 3],
 ) -> u8
-    ensures { λ r. ⌜ r ≡ numberOf (checked (now (image .entry)) (limitsBy «grant_low» «grant_high» «stack_low» «stack_high») (now (marks .entry)) .0) ⌝ }
+    ensures { λ r. ⌜ r ≡
+        numberOf (checked (now (image .entry)) (limitsBy «grant_low» «grant_high» «stack_low» «stack_high») (now (marks .entry)) .0) ⌝ }
     ensures { λ _. ⌜ now (report .exit) ≡
         reportCells (checked (now (image .entry)) (limitsBy «grant_low» «grant_high» «stack_low» «stack_high») (now (marks .entry)) .0) ⌝ }
-    ensures { λ _. ⌜ now (marks .exit) ≡ checked (now (image .entry)) (limitsBy «grant_low» «grant_high» «stack_low» «stack_high») (now (marks .entry)) .1 ⌝ }
+    ensures { λ _. ⌜ now (marks .exit) ≡
+        checked (now (image .entry)) (limitsBy «grant_low» «grant_high» «stack_low» «stack_high») (now (marks .entry)) .1 ⌝ }
 {
     let verdict = check(
         image,
@@ -142,7 +144,8 @@ pub extern "C" fn gate_start(
     report: &mut [u16; 3],
 ) -> u8
     ensures { λ r. ⌜
-        startedCells (now (image .entry)) (limitsBy «grant_low» «grant_high» «stack_low» «stack_high») (now (marks .entry)) (now (memory .entry)) (now (registers .entry)) ≡
+        startedCells (now (image .entry)) (limitsBy «grant_low» «grant_high» «stack_low» «stack_high»)
+        (now (marks .entry)) (now (memory .entry)) (now (registers .entry)) ≡
         record { number = r; report = now (report .exit); registers = now (registers .exit); marks = now (marks .exit); memory = now (memory .exit) } ⌝ }
 {
     let given = registers_in(registers);
@@ -173,7 +176,8 @@ pub extern "C" fn gate_step(
     memory: &mut [u8],
     registers: &mut [u32; 6],
 ) -> u8
-    ensures { λ r. ⌜ steppedCells (now (image .entry)) (limitsBy «grant_low» «grant_high» «stack_low» «stack_high») (now (registers .entry)) (now (memory .entry)) ≡
+    ensures { λ r. ⌜
+        steppedCells (now (image .entry)) (limitsBy «grant_low» «grant_high» «stack_low» «stack_high») (now (registers .entry)) (now (memory .entry)) ≡
         record { number = r; registers = now (registers .exit); memory = now (memory .exit) } ⌝ }
 {
     let s = step(
@@ -200,7 +204,8 @@ pub extern "C" fn gate_run(
     budget: u32,
     steps: &mut [u32; 1],
 ) -> u8
-    ensures { λ r. ⌜ ranCells budget (now (image .entry)) (limitsBy «grant_low» «grant_high» «stack_low» «stack_high») (now (registers .entry)) (now (memory .entry)) ≡
+    ensures { λ r. ⌜
+        ranCells budget (now (image .entry)) (limitsBy «grant_low» «grant_high» «stack_low» «stack_high») (now (registers .entry)) (now (memory .entry)) ≡
         record { number = r; registers = now (registers .exit); steps = now (steps .exit); memory = now (memory .exit) } ⌝ }
 {
     let ran = run(

@@ -50,7 +50,8 @@ listed-fits image marks buffer outcome room size end marks′ buffer′ w e =
 
 -- the text of an instruction in a part that has room for any
 pub text-written : (address : ℕ) (i : Instruction) (part after : List ℕ) (written : Written) (n : ℕ) →
-    (written, after) ≡ placed (text address i) part → 23 ≤ length part → written ≡ Bytes n → (n ≡ length (text address i)) × (after ≡ text address i ++ drop (length (text address i)) part)
+    (written, after) ≡ placed (text address i) part → 23 ≤ length part → written ≡ Bytes n →
+    (n ≡ length (text address i)) × (after ≡ text address i ++ drop (length (text address i)) part)
 text-written address i part after written n e room is =
     let p = e ∙ text-placed address i part room in
     let w : written ≡ Bytes (length (text address i)) = ap (λ (x : Written × List ℕ). x .0) p in

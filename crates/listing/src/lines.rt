@@ -112,7 +112,8 @@ pub fn push_starts(
     marks: &[u16],
 ) -> usize
     requires { ⌜ ValidLayout (now image) layout × (at + 35 * layout .size ≤ length (now buffer)) ⌝ }
-    ensures { λ r. ⌜ Wrote at (now (buffer .entry)) (flatMap (lineAt (now (image .entry)) (now (marks .entry))) (counting (layout .size) 0)) r (now (buffer .exit)) ⌝ }
+    ensures { λ r. ⌜
+        Wrote at (now (buffer .entry)) (flatMap (lineAt (now (image .entry)) (now (marks .entry))) (counting (layout .size) 0)) r (now (buffer .exit)) ⌝ }
 {
     let mut end = at;
     let mut offset = 0;

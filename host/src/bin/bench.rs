@@ -286,8 +286,8 @@ fn runs(name: &'static str, workload: fn(u16) -> Workload) -> Line {
     Line { name, unit: "million steps/s", library: rate(library), twin: rate(twin), simulator, rate: true }
 }
 
-// The simulator. It runs main from its first byte to its RET and counts the instructions itself. Its processor time is the shell's account
-// of it; a short run is taken off a long one, so that loading counts for nothing.
+// The simulator. It runs main from its first byte to its RET and counts the instructions itself. Its processor time is the shell's
+// account of it; a short run is taken off a long one, so that loading counts for nothing.
 
 /// Instructions a second of processor time.
 fn simulate(workload: fn(u16) -> Workload) -> Option<f64> {
