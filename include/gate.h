@@ -1,10 +1,11 @@
 /* The gate loader for C: check an image, start it, step it, run it, and decode an instruction.
  *
- * Every function is total: whatever the bytes, numbers and lengths, it returns, and what it leaves in each cell is said below. What C must
- * see to, as for any pointer: each pointer is not null (where a length is 0 any address that is not null will do), aligned for its type, and leads to
- * as many cells as its length, or its array type, says; and no cell that a function writes lies in another of its arguments.
+ * Every function is total: whatever the bytes, numbers and lengths, it returns, and what it leaves in each cell is said below.
+ * What C must see to, as for any pointer: each pointer is not null (where a length is 0 any address that is not null will do),
+ * aligned for its type, and leads to as many cells as its length, or its array type, says; and no cell that a function writes
+ * lies in another of its arguments.
  *
- * Numbers stand as the gate's paper has them; addresses are 16 bits, PC has 24. Limits are four addresses, ends included. */
+ * Numbers are those of document 01; addresses are 16 bits, PC has 24. Limits are four addresses, ends included. */
 #ifndef GATE_H
 #define GATE_H
 
@@ -15,7 +16,7 @@
 extern "C" {
 #endif
 
-/* Answers of every function: 0, or a refusal, or a trap. */
+/* Answers of every function: 0, a refusal, a trap, or 64 and 65, which document 01 has no number for. */
 enum gate_number {
     GATE_OK = 0,                    /* accepted, started, made, decoded */
     GATE_LIMITS = 1,                /* limits break a rule */
@@ -24,11 +25,11 @@ enum gate_number {
     GATE_LAYOUT = 4,                /* another rule of the layout is broken */
     GATE_MARKS = 5,                 /* fewer marks than code bytes */
     GATE_UNREACHED = 6,             /* a start is not reached */
-    GATE_DEPTHS = 7,                /* depths disagree */
+    GATE_DEPTHS_DISAGREE = 7,       /* depths disagree */
     GATE_OUTSIDE = 8,               /* outside the set */
     GATE_TRUNCATED = 9,             /* the bytes end too soon */
     GATE_INTO_INSTRUCTION = 10,     /* a jump into an instruction */
-    GATE_DEPTH = 11,                /* depth leaves 0 to 255, or RET above 0 */
+    GATE_DEPTH_RANGE = 11,          /* depth leaves 0 to 255, or RET above 0 */
     GATE_STORE = 12,                /* a store that is not allowed */
     GATE_JUMP = 13,                 /* a jump leaves its routine */
     GATE_CALL = 14,                 /* a call that is not to an earlier routine */
@@ -39,7 +40,7 @@ enum gate_number {
     GATE_TRAP_PC = 22,              /* PC is not in the code, or the bytes run out */
     GATE_TRAP_OUTSIDE = 23,         /* outside the set */
     GATE_TRAP_STACK = 24,           /* SP would leave its range */
-    GATE_TRAP_STORE = 25,           /* a store outside grant and stack in use */
+    GATE_TRAP_STORE = 25,           /* a store outside the grant, or an SP store outside SP + 1 to stack high */
     GATE_FINISHED = 64,             /* a step that began at PC 0; a run that reached it */
     GATE_SPENT = 65                 /* a run that used up its budget, PC not 0 */
 };
@@ -55,18 +56,18 @@ enum gate_register { GATE_A, GATE_X, GATE_Y, GATE_CC, GATE_SP, GATE_PC, GATE_REG
 enum gate_report { GATE_OFFSET, GATE_NEED, GATE_COUNT, GATE_REPORT };
 
 /* Checks an image under limits. The answer is 0 (accepted) or a refusal from 1 to 16.
- * report: the refusal's offset from the first code byte (0 for all but 6 to 15); the need; the count of starts. Offset is 0 where accepted, need and
- * count are 0 where refused.
- * marks: accepted, each start's mark is its depth + 1 and every other code byte's is 0; after 6 to 16 all code marks are 0; after 1 to 5 none
- * has changed. Cells past the code never change. */
+ * report: the refusal's offset from the first code byte (0 for all but 6 to 15); the need; the count of starts. Offset is 0 where
+ * accepted, need and count are 0 where refused.
+ * marks: accepted, each start's mark is its depth + 1 and every other code byte's is 0; after 6 to 16 all code marks are 0; after
+ * 1 to 5 none has changed. Cells past the code never change. */
 uint8_t gate_check(const uint8_t *image, size_t image_length,
                    uint16_t grant_low, uint16_t grant_high, uint16_t stack_low, uint16_t stack_high,
                    uint16_t *marks, size_t marks_length,
                    uint16_t report[GATE_REPORT]);
 
-/* Starts a routine: 17, then the whole check. Accepted, 00 is written to the top two stack bytes, and registers are A, X, Y and CC as
- * they were given (their low 8 or 16 bits), SP two below stack high, and PC at main. Refused, no memory is written and all registers are 0.
- * report and marks are as gate_check leaves them; after 17 the report is zeros and no mark has changed. */
+/* Starts a routine: 17, then the whole check. Accepted, 00 is written to the top two stack bytes, and registers are A, X, Y and
+ * CC as they were given (their low 8 or 16 bits), SP two below stack high, and PC at main. Refused, no memory is written and all
+ * registers are 0. report and marks are as gate_check leaves them; after 17 the report is zeros and no mark has changed. */
 uint8_t gate_start(const uint8_t *image, size_t image_length,
                    uint16_t grant_low, uint16_t grant_high, uint16_t stack_low, uint16_t stack_high,
                    uint16_t *marks, size_t marks_length,
@@ -74,16 +75,16 @@ uint8_t gate_start(const uint8_t *image, size_t image_length,
                    uint32_t registers[GATE_REGISTERS],
                    uint16_t report[GATE_REPORT]);
 
-/* Makes one step. The answer is 0 (made), GATE_FINISHED, a trap from 21 to 25, or a refusal (17, 1 to 4). Each register is read by its
- * low 8 bits (A, CC), 16 bits (X, Y, SP) or 32 bits (PC). Unless the step is made, registers come back as they were read, and memory is as
- * it was. */
+/* Makes one step. The answer is 0 (made), GATE_FINISHED, a trap from 21 to 25, or a refusal (17, 1 to 4). Each register is read
+ * by its low 8 bits (A, CC), 16 bits (X, Y, SP) or 32 bits (PC). Unless the step is made, registers come back as they were read,
+ * and memory is as it was. */
 uint8_t gate_step(const uint8_t *image, size_t image_length,
                   uint16_t grant_low, uint16_t grant_high, uint16_t stack_low, uint16_t stack_high,
                   uint8_t *memory, size_t memory_length,
                   uint32_t registers[GATE_REGISTERS]);
 
-/* Makes steps until the routine finishes, traps or budget steps are made. The answer is GATE_FINISHED, GATE_SPENT, a trap, or a refusal
- * (17, 1 to 4). steps: the number of steps made, the trapping one not counted; 0 where refused. */
+/* Makes steps until the routine finishes, traps or budget steps are made. The answer is GATE_FINISHED, GATE_SPENT, a trap, or a
+ * refusal (17, 1 to 4). steps: the number of steps made, the trapping one not counted; 0 where refused. */
 uint8_t gate_run(const uint8_t *image, size_t image_length,
                  uint16_t grant_low, uint16_t grant_high, uint16_t stack_low, uint16_t stack_high,
                  uint8_t *memory, size_t memory_length,
@@ -91,8 +92,8 @@ uint8_t gate_run(const uint8_t *image, size_t image_length,
                  uint32_t budget, uint32_t steps[1]);
 
 /* Decodes the instruction at the front of bytes. The answer is 0, 8 (outside the set) or 9 (the bytes end too soon).
- * length: the instruction's bytes, 0 where there is none. text: the instruction as it stands at address, in the manual's assembler notation, and 0 in
- * every cell after it; all 0 where there is none. */
+ * length: the instruction's bytes, 0 where there is none. text: the instruction as it stands at address, in the manual's
+ * assembler notation, and 0 in every cell after it; all 0 where there is none. */
 uint8_t gate_decode(const uint8_t *bytes, size_t bytes_length, uint16_t address,
                     uint8_t text[GATE_TEXT_BYTES], size_t length[1]);
 

@@ -1,4 +1,5 @@
-//! The functions of `include/gate.h` with slices for pointers: the same numbers and the same cells. All unsafe code of this package is here.
+//! The functions of `include/gate.h` with slices for pointers: the same numbers and the same cells. All unsafe code of this
+//! package is here.
 
 use crate::types::{Limits, TEXT_BYTES};
 
@@ -79,8 +80,9 @@ mod c {
 }
 
 pub fn check(image: &[u8], limits: &Limits, marks: &mut [u16], report: &mut ReportCells) -> u8 {
-    // SAFETY: each pointer comes from a reference that lives through the call, so it is not null (an empty slice's neither), aligned, and leads
-    // to as many cells as the length beside it or its array type says. What is written comes from `&mut`, so it lies in no other argument.
+    // SAFETY: each pointer comes from a reference that lives through the call, so it is not null (an empty slice's neither),
+    // aligned, and leads to as many cells as the length beside it or its array type says. What is written comes from `&mut`, so
+    // it lies in no other argument.
     unsafe {
         c::gate_check(
             image.as_ptr(),
@@ -104,7 +106,7 @@ pub fn start(
     registers: &mut RegisterCells,
     report: &mut ReportCells,
 ) -> u8 {
-    // SAFETY: as for `check`: every pointer and length come from one reference, and those written from `&mut`, which overlap nothing.
+    // SAFETY: as for `check`: every pointer comes with its length from one reference, and what is written from `&mut`.
     unsafe {
         c::gate_start(
             image.as_ptr(),
@@ -124,7 +126,7 @@ pub fn start(
 }
 
 pub fn step(image: &[u8], limits: &Limits, memory: &mut [u8], registers: &mut RegisterCells) -> u8 {
-    // SAFETY: as for `check`: every pointer and length come from one reference, and those written from `&mut`, which overlap nothing.
+    // SAFETY: as for `check`: every pointer comes with its length from one reference, and what is written from `&mut`.
     unsafe {
         c::gate_step(
             image.as_ptr(),
@@ -148,7 +150,7 @@ pub fn run(
     budget: u32,
     steps: &mut [u32; 1],
 ) -> u8 {
-    // SAFETY: as for `check`: every pointer and length come from one reference, and those written from `&mut`, which overlap nothing.
+    // SAFETY: as for `check`: every pointer comes with its length from one reference, and what is written from `&mut`.
     unsafe {
         c::gate_run(
             image.as_ptr(),
@@ -167,6 +169,6 @@ pub fn run(
 }
 
 pub fn decode(bytes: &[u8], address: u16, text: &mut [u8; TEXT_BYTES], length: &mut [usize; 1]) -> u8 {
-    // SAFETY: as for `check`: every pointer and length come from one reference, and those written from `&mut`, which overlap nothing.
+    // SAFETY: as for `check`: every pointer comes with its length from one reference, and what is written from `&mut`.
     unsafe { c::gate_decode(bytes.as_ptr(), bytes.len(), address, text, length) }
 }

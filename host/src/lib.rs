@@ -1,12 +1,13 @@
 //! The gate loader for Rust: a safe interface over the proved static library `libgate_c.a`.
 //!
-//! Every function is total: whatever the bytes, numbers and lengths, it returns. `include/gate.h` says what each leaves in each cell;
-//! [`cells`] has the same functions with those very cells, and [`twin`] an independent implementation to compare with.
+//! Every function is total: whatever the bytes, numbers and lengths, it returns. `include/gate.h` says what each leaves in each
+//! cell; [`cells`] has the same functions with those very cells, and [`twin`] an independent implementation to compare with.
 
 #![deny(unsafe_code)]
 
 #[allow(unsafe_code)]
 pub mod cells;
+pub mod slu;
 pub mod twin;
 mod types;
 
@@ -16,8 +17,8 @@ use cells::{RegisterCells, ReportCells};
 
 /// Checks an image under limits.
 ///
-/// Accepted, each start's mark is its depth + 1 and every other code byte's is 0; after refusals 6 to 16 all code marks are 0; after 1 to 5 none has
-/// changed. Marks past the code never change.
+/// Accepted, each start's mark is its depth + 1 and every other code byte's is 0; after refusals 6 to 16 all code marks are 0;
+/// after 1 to 5 none has changed. Marks past the code never change.
 pub fn check(image: &[u8], limits: &Limits, marks: &mut [u16]) -> Result<Accepted, Refused> {
     let mut report = ReportCells::default();
     let number = cells::check(image, limits, marks, &mut report);
@@ -26,8 +27,8 @@ pub fn check(image: &[u8], limits: &Limits, marks: &mut [u16]) -> Result<Accepte
 
 /// Starts a routine: the memory's size, then the whole check.
 ///
-/// Accepted, 00 is written to the top two stack bytes, and SP and PC are set; A, X, Y and CC stay. Refused, no memory is written and all registers are 0.
-/// Marks are as [`check`] leaves them, and unchanged where the memory is refused.
+/// Accepted, 00 is written to the top two stack bytes, and SP and PC are set; A, X, Y and CC stay. Refused, no memory is written
+/// and all registers are 0. Marks are as [`check`] leaves them, and unchanged where the memory is refused.
 pub fn start(
     image: &[u8],
     limits: &Limits,

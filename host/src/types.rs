@@ -44,7 +44,7 @@ pub enum Refusal {
     /// A start is not reached.
     Unreached = 6,
     /// Depths disagree.
-    Depths = 7,
+    DepthsDisagree = 7,
     /// Outside the set.
     Outside = 8,
     /// The bytes end too soon.
@@ -52,7 +52,7 @@ pub enum Refusal {
     /// A jump into an instruction.
     IntoInstruction = 10,
     /// Depth leaves 0 to 255, or RET above 0.
-    Depth = 11,
+    DepthRange = 11,
     /// A store that is not allowed.
     Store = 12,
     /// A jump leaves its routine.
@@ -75,11 +75,11 @@ impl Refusal {
         Refusal::Layout,
         Refusal::Marks,
         Refusal::Unreached,
-        Refusal::Depths,
+        Refusal::DepthsDisagree,
         Refusal::Outside,
         Refusal::Truncated,
         Refusal::IntoInstruction,
-        Refusal::Depth,
+        Refusal::DepthRange,
         Refusal::Store,
         Refusal::Jump,
         Refusal::Call,
@@ -88,7 +88,7 @@ impl Refusal {
         Refusal::Memory,
     ];
 
-    /// The paper's number, 1 to 17.
+    /// Document 01's number, 1 to 17.
     pub fn number(self) -> u8 {
         self as u8
     }
@@ -111,14 +111,14 @@ pub enum Trap {
     Outside = 23,
     /// SP would leave its range.
     Stack = 24,
-    /// A store outside the grant and the stack in use.
+    /// A store outside the grant, or an SP store outside SP + 1 to stack high.
     Store = 25,
 }
 
 impl Trap {
     const ALL: [Trap; 5] = [Trap::Sp, Trap::Pc, Trap::Outside, Trap::Stack, Trap::Store];
 
-    /// The paper's number, 21 to 25.
+    /// Document 01's number, 21 to 25.
     pub fn number(self) -> u8 {
         self as u8
     }

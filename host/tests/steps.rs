@@ -1,9 +1,8 @@
 //! The twin's steps against those that were recorded from a simulator: 32 for each of the 260 op-codes.
 
-use gate_host::{twin, Limits, Registers, Step, MEMORY_BYTES};
-use std::env;
+use gate_host::{slu, twin, Limits, Registers, Step, MEMORY_BYTES};
 use std::fs;
-use std::path::PathBuf;
+use std::path::Path;
 
 const RECORD: usize = 46;
 const LIMITS: Limits = Limits { grant_low: 0x0000, grant_high: 0x14FF, stack_low: 0x1600, stack_high: 0x17FF };
@@ -30,23 +29,13 @@ fn cells(bytes: &[u8]) -> impl Iterator<Item = (usize, u8)> + '_ {
 }
 
 fn image_of(record: &[u8]) -> Vec<u8> {
-    let length = record[0];
-    let mut image = b"SLU\x00\x01".to_vec();
-    image.extend([record[15], record[16], 1, 0, length]);
-    image.extend(&record[1..1 + usize::from(length)]);
-    image
+    slu::image_of(word(&record[15..]), &[&record[1..1 + usize::from(record[0])]])
 }
 
 #[test]
 fn recorded_steps() {
-    let file = env::var_os("GATE_STEPS").map_or_else(
-        || PathBuf::from(concat!(env!("CARGO_MANIFEST_DIR"), "/../crates/recorded_steps/data/steps.bin")),
-        PathBuf::from,
-    );
-    let Ok(records) = fs::read(&file) else {
-        println!("SKIPPED: there is no {}; set GATE_STEPS to the file of recorded steps", file.display());
-        return;
-    };
+    let file = Path::new(env!("CARGO_MANIFEST_DIR")).join("../crates/recorded_steps/data/steps.bin");
+    let records = fs::read(&file).expect("the recorded steps");
     assert_eq!(records.len(), 8_320 * RECORD);
     for (number, record) in records.chunks_exact(RECORD).enumerate() {
         let mut memory = vec![0; MEMORY_BYTES];

@@ -1,1 +1,1 @@
-mod Answers
+pub mod Answers

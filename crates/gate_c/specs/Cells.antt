@@ -5,8 +5,8 @@ use lib.ListN.{length, getD, drop, replicate}
 use Rattle.image.specs.declared.Limits.{Limits}
 use Rattle.checker.specs.Check.{numberOf, offsetOf, needOf, startsOf}
 use Rattle.checker.specs.declared.Verdict.{Verdict}
-use Rattle.machine.specs.Step.{stepped}
-use Rattle.machine.specs.Run.{ran}
+use Rattle.machine.specs.Step.{stepped, stepNumber}
+use Rattle.machine.specs.Run.{ran, runNumber}
 use Rattle.gate.specs.Start.{started}
 use Rattle.machine.specs.declared.Registers.{Registers}
 use Rattle.machine.specs.declared.StepAnswer.{StepAnswer}
@@ -19,8 +19,8 @@ use Rattle.stm8.specs.declared.Decoded.the-variants.{Found, Outside, Truncated}
 use Rattle.disassembly.specs.Notation.{text}
 
 -- the four addresses of limits
-abbrev pub limits : ℕ → ℕ → ℕ → ℕ → Limits
-limits grantLow grantHigh stackLow stackHigh =
+abbrev pub limitsBy : ℕ → ℕ → ℕ → ℕ → Limits
+limitsBy grantLow grantHigh stackLow stackHigh =
     record { grant = record { low = grantLow; high = grantHigh }; stack = record { low = stackLow; high = stackHigh } }
 
 -- a report: offset, need and count
@@ -42,24 +42,24 @@ registersIn cells =
 abbrev pub registerCells : Registers → List ℕ
 registerCells r = r .a ∷ r .x ∷ r .y ∷ r .cc ∷ r .sp ∷ r .pc ∷ []
 
--- an answer: the trap's or refusal's number, 0 made, 64 finished, 65 spent
+-- an answer: 64 finished, 65 spent, else document 01's number
 abbrev pub stepCode : StepAnswer → ℕ
-stepCode Step.Made = 0
+stepCode Step.Made = stepNumber Step.Made
 stepCode Step.Finished = 64
-stepCode (Step.Trap number) = number
-stepCode (Step.Refused number) = number
+stepCode (Step.Trap number) = stepNumber (Step.Trap number)
+stepCode (Step.Refused number) = stepNumber (Step.Refused number)
 
 abbrev pub runCode : RunAnswer → ℕ
 runCode Finished = 64
 runCode Spent = 65
-runCode (Trap number) = number
-runCode (Refused number) = number
+runCode (Trap number) = runNumber (Trap number)
+runCode (Refused number) = runNumber (Refused number)
 
 -- the length of what was decoded, and its text at an address, with 0 in every cell after it
-abbrev pub lengthOf : Decoded → ℕ
-lengthOf (Found i n) = n
-lengthOf Outside = 0
-lengthOf Truncated = 0
+abbrev pub decodedLength : Decoded → ℕ
+decodedLength (Found i n) = n
+decodedLength Outside = 0
+decodedLength Truncated = 0
 
 abbrev pub instructionText : ℕ → Instruction → List ℕ
 instructionText address i = text address i ++ drop (length (text address i)) (replicate 24 0)
@@ -70,7 +70,7 @@ textCells address Outside = replicate 24 0
 textCells address Truncated = replicate 24 0
 
 -- what a call answers, and every cell that it may write
-pub record Started : Type 0 where
+pub record StartCells : Type 0 where
   pub number : ℕ
   pub report : List ℕ
   pub registers : List ℕ
@@ -78,7 +78,7 @@ pub record Started : Type 0 where
   pub memory : List ℕ
 
 -- starting, with the caller's A, X, Y and CC
-unfoldable pub startedCells : List ℕ → Limits → List ℕ → List ℕ → List ℕ → Started
+unfoldable pub startedCells : List ℕ → Limits → List ℕ → List ℕ → List ℕ → StartCells
 startedCells image limits marks memory cells =
     let given = registersIn cells in
     let s = started image limits marks memory (given .a) (given .x) (given .y) (given .cc) in
@@ -90,23 +90,23 @@ startedCells image limits marks memory cells =
       memory = s .memory;
     }
 
-pub record Stepped : Type 0 where
+pub record StepCells : Type 0 where
   pub number : ℕ
   pub registers : List ℕ
   pub memory : List ℕ
 
-unfoldable pub steppedCells : List ℕ → Limits → List ℕ → List ℕ → Stepped
+unfoldable pub steppedCells : List ℕ → Limits → List ℕ → List ℕ → StepCells
 steppedCells image limits cells memory =
     let s = stepped image limits (registersIn cells) memory in
     record { number = stepCode (s .0 .answer); registers = registerCells (s .0 .registers); memory = s .1 }
 
-pub record Ran : Type 0 where
+pub record RunCells : Type 0 where
   pub number : ℕ
   pub registers : List ℕ
   pub steps : List ℕ
   pub memory : List ℕ
 
-unfoldable pub ranCells : ℕ → List ℕ → Limits → List ℕ → List ℕ → Ran
+unfoldable pub ranCells : ℕ → List ℕ → Limits → List ℕ → List ℕ → RunCells
 ranCells budget image limits cells memory =
     let r = ran budget image limits (registersIn cells) memory in
     record { number = runCode (r .0 .answer); registers = registerCells (r .0 .registers); steps = r .0 .steps ∷ []; memory = r .1 }

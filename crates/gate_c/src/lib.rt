@@ -3,33 +3,35 @@ ghost use mathlib.Core.Path.{_≡_};
 ghost use Rattle.checker.specs.Check.{checked, numberOf};
 ghost use Rattle.stm8.specs.Decoding.{decoded, decodingNumber};
 ghost use mathlib.Core.List.{[], _∷_};
-ghost use Rattle.gate_c.specs.Cells.{limits as limitsBy, registersIn, registerCells, reportCells, stepCode, runCode, lengthOf, instructionText, textCells, startedCells, steppedCells, ranCells};
-use checker::Verdict;
-use checker::check;
+ghost use Rattle.gate_c.specs.Cells.{limitsBy, registersIn, registerCells, reportCells, stepCode, runCode};
+ghost use Rattle.gate_c.specs.Cells.{decodedLength, instructionText, textCells, startedCells, steppedCells, ranCells};
 use decoder::decode;
+use decoder::decoding_number;
 use disassembly::disassemble;
+use gate::Area;
+use gate::Limits;
+use gate::Registers;
+use gate::RunAnswer;
+use gate::StepAnswer;
+use gate::Verdict;
+use gate::check;
+use gate::run;
 use gate::start;
-use image::Area;
-use image::Limits;
-use machine::Registers;
-use machine::RunAnswer;
-use machine::StepAnswer;
-use machine::run;
-use machine::step;
+use gate::step;
 use stm8::Decoded;
 use stm8::Instruction;
 
-fn limits(grantlow: u16, granthigh: u16, stacklow: u16, stackhigh: u16) -> Limits
-    ensures { λ r. ⌜ r ≡ limitsBy grantlow granthigh stacklow stackhigh ⌝ }
+fn limits(grant_low: u16, grant_high: u16, stack_low: u16, stack_high: u16) -> Limits
+    ensures { λ r. ⌜ r ≡ limitsBy «grant_low» «grant_high» «stack_low» «stack_high» ⌝ }
 {
     Limits {
         grant: Area {
-            low: grantlow,
-            high: granthigh,
+            low: grant_low,
+            high: grant_high,
         },
         stack: Area {
-            low: stacklow,
-            high: stackhigh,
+            low: stack_low,
+            high: stack_high,
         },
     }
 }
@@ -101,47 +103,55 @@ fn run_code(answer: RunAnswer) -> u8
     }
 }
 
+// Checks an image under limits.
 #[no_mangle]
 pub extern "C" fn gate_check(
     image: &[u8],
-    grantlow: u16,
-    granthigh: u16,
-    stacklow: u16,
-    stackhigh: u16,
+    grant_low: u16,
+    grant_high: u16,
+    stack_low: u16,
+    stack_high: u16,
     marks: &mut [u16],
     report: &mut [u16; 3],
 ) -> u8
-    ensures { λ r. ⌜ r ≡ numberOf (checked (now (image .entry)) (limitsBy grantlow granthigh stacklow stackhigh) (now (marks .entry)) .0) ⌝ }
-    ensures { λ _. ⌜ now (report .exit) ≡ reportCells (checked (now (image .entry)) (limitsBy grantlow granthigh stacklow stackhigh) (now (marks .entry)) .0) ⌝ }
-    ensures { λ _. ⌜ now (marks .exit) ≡ checked (now (image .entry)) (limitsBy grantlow granthigh stacklow stackhigh) (now (marks .entry)) .1 ⌝ }
+    ensures { λ r. ⌜ r ≡
+        numberOf (checked (now (image .entry)) (limitsBy «grant_low» «grant_high» «stack_low» «stack_high») (now (marks .entry)) .0) ⌝ }
+    ensures { λ _. ⌜ now (report .exit) ≡
+        reportCells (checked (now (image .entry)) (limitsBy «grant_low» «grant_high» «stack_low» «stack_high») (now (marks .entry)) .0) ⌝ }
+    ensures { λ _. ⌜ now (marks .exit) ≡
+        checked (now (image .entry)) (limitsBy «grant_low» «grant_high» «stack_low» «stack_high») (now (marks .entry)) .1 ⌝ }
 {
     let verdict = check(
         image,
-        limits(grantlow, granthigh, stacklow, stackhigh),
+        limits(grant_low, grant_high, stack_low, stack_high),
         marks,
     );
     *report = report_cells(verdict);
     number(verdict)
 }
 
+// Starts a routine: 17, then the whole check. Registers come in with A, X, Y and CC, and go out as those to go on from.
 #[no_mangle]
 pub extern "C" fn gate_start(
     image: &[u8],
-    grantlow: u16,
-    granthigh: u16,
-    stacklow: u16,
-    stackhigh: u16,
+    grant_low: u16,
+    grant_high: u16,
+    stack_low: u16,
+    stack_high: u16,
     marks: &mut [u16],
     memory: &mut [u8],
     registers: &mut [u32; 6],
     report: &mut [u16; 3],
 ) -> u8
-    ensures { λ r. ⌜ startedCells (now (image .entry)) (limitsBy grantlow granthigh stacklow stackhigh) (now (marks .entry)) (now (memory .entry)) (now (registers .entry)) ≡ record { number = r; report = now (report .exit); registers = now (registers .exit); marks = now (marks .exit); memory = now (memory .exit) } ⌝ }
+    ensures { λ r. ⌜
+        startedCells (now (image .entry)) (limitsBy «grant_low» «grant_high» «stack_low» «stack_high»)
+        (now (marks .entry)) (now (memory .entry)) (now (registers .entry)) ≡
+        record { number = r; report = now (report .exit); registers = now (registers .exit); marks = now (marks .exit); memory = now (memory .exit) } ⌝ }
 {
     let given = registers_in(registers);
     let s = start(
         image,
-        limits(grantlow, granthigh, stacklow, stackhigh),
+        limits(grant_low, grant_high, stack_low, stack_high),
         marks,
         memory,
         given.a,
@@ -155,21 +165,24 @@ pub extern "C" fn gate_start(
     number(verdict)
 }
 
+// Makes one step.
 #[no_mangle]
 pub extern "C" fn gate_step(
     image: &[u8],
-    grantlow: u16,
-    granthigh: u16,
-    stacklow: u16,
-    stackhigh: u16,
+    grant_low: u16,
+    grant_high: u16,
+    stack_low: u16,
+    stack_high: u16,
     memory: &mut [u8],
     registers: &mut [u32; 6],
 ) -> u8
-    ensures { λ r. ⌜ steppedCells (now (image .entry)) (limitsBy grantlow granthigh stacklow stackhigh) (now (registers .entry)) (now (memory .entry)) ≡ record { number = r; registers = now (registers .exit); memory = now (memory .exit) } ⌝ }
+    ensures { λ r. ⌜
+        steppedCells (now (image .entry)) (limitsBy «grant_low» «grant_high» «stack_low» «stack_high») (now (registers .entry)) (now (memory .entry)) ≡
+        record { number = r; registers = now (registers .exit); memory = now (memory .exit) } ⌝ }
 {
     let s = step(
         image,
-        limits(grantlow, granthigh, stacklow, stackhigh),
+        limits(grant_low, grant_high, stack_low, stack_high),
         registers_in(registers),
         memory,
     );
@@ -178,23 +191,26 @@ pub extern "C" fn gate_step(
     step_code(answer)
 }
 
+// Makes steps until the routine finishes, traps or the budget is used up.
 #[no_mangle]
 pub extern "C" fn gate_run(
     image: &[u8],
-    grantlow: u16,
-    granthigh: u16,
-    stacklow: u16,
-    stackhigh: u16,
+    grant_low: u16,
+    grant_high: u16,
+    stack_low: u16,
+    stack_high: u16,
     memory: &mut [u8],
     registers: &mut [u32; 6],
     budget: u32,
     steps: &mut [u32; 1],
 ) -> u8
-    ensures { λ r. ⌜ ranCells budget (now (image .entry)) (limitsBy grantlow granthigh stacklow stackhigh) (now (registers .entry)) (now (memory .entry)) ≡ record { number = r; registers = now (registers .exit); steps = now (steps .exit); memory = now (memory .exit) } ⌝ }
+    ensures { λ r. ⌜
+        ranCells budget (now (image .entry)) (limitsBy «grant_low» «grant_high» «stack_low» «stack_high») (now (registers .entry)) (now (memory .entry)) ≡
+        record { number = r; registers = now (registers .exit); steps = now (steps .exit); memory = now (memory .exit) } ⌝ }
 {
     let ran = run(
         image,
-        limits(grantlow, granthigh, stacklow, stackhigh),
+        limits(grant_low, grant_high, stack_low, stack_high),
         registers_in(registers),
         memory,
         budget,
@@ -224,8 +240,8 @@ fn text_cells(found: Decoded, address: u16) -> [u8; 24]
     }
 }
 
-fn length_of(found: Decoded) -> usize
-    ensures { λ r. ⌜ r ≡ lengthOf found ⌝ }
+fn decoded_length(found: Decoded) -> usize
+    ensures { λ r. ⌜ r ≡ decodedLength found ⌝ }
 {
     match found {
         Decoded::Found(_, n) => n,
@@ -234,16 +250,7 @@ fn length_of(found: Decoded) -> usize
     }
 }
 
-fn decoding_number(found: Decoded) -> u8
-    ensures { λ r. ⌜ r ≡ decodingNumber found ⌝ }
-{
-    match found {
-        Decoded::Found(_, _) => 0,
-        Decoded::Outside => 8,
-        Decoded::Truncated => 9,
-    }
-}
-
+// Decodes the instruction at the front of bytes, with its text as it stands at an address.
 #[no_mangle]
 pub extern "C" fn gate_decode(
     bytes: &[u8],
@@ -253,10 +260,10 @@ pub extern "C" fn gate_decode(
 ) -> u8
     ensures { λ r. ⌜ r ≡ decodingNumber (decoded (now (bytes .entry))) ⌝ }
     ensures { λ _. ⌜ now (text .exit) ≡ textCells address (decoded (now (bytes .entry))) ⌝ }
-    ensures { λ _. ⌜ now (length .exit) ≡ lengthOf (decoded (now (bytes .entry))) ∷ [] ⌝ }
+    ensures { λ _. ⌜ now (length .exit) ≡ decodedLength (decoded (now (bytes .entry))) ∷ [] ⌝ }
 {
     let found = decode(bytes);
     *text = text_cells(found, address);
-    *length = [length_of(found)];
+    *length = [decoded_length(found)];
     decoding_number(found)
 }

@@ -4,6 +4,6 @@ use Rattle.gatecheck.specs.declared.Input.{Input}
 use Rattle.gatecheck.specs.declared.Input.the-variants.{Bytes, Failed}
 
 -- the bytes that were read lie within the buffer
-abbrev pub Within : Input → ℕ → Type 0
-Within (Bytes n) size = n ≤ size
-Within Failed size = Unit {0}
+abbrev pub ReadInto : Input → ℕ → Type 0
+ReadInto (Bytes n) size = n ≤ size
+ReadInto Failed size = Unit {0}

@@ -1,6 +1,6 @@
 // The verdict program: reads limits and an image from standard input, checks the image, and prints the verdict and a line for each start.
 ghost use lib.ListN.{length};
-ghost use Rattle.gatecheck.specs.Reading.{Within};
+ghost use Rattle.gatecheck.specs.Reading.{ReadInto};
 use disassembly::Written;
 use libc::STDIN_FILENO;
 use libc::STDOUT_FILENO;
@@ -20,7 +20,7 @@ enum Input {
 
 // One read: how many bytes came, none at the input's end.
 fn read_some(buffer: &mut [u8]) -> Input
-    ensures { λ r. ⌜ Within r (length (now (buffer .entry))) ⌝ }
+    ensures { λ r. ⌜ ReadInto r (length (now (buffer .entry))) ⌝ }
 {
     let got = libc::read(STDIN_FILENO, buffer);
     if got < 0 {
@@ -31,7 +31,7 @@ fn read_some(buffer: &mut [u8]) -> Input
 
 // Reads until the input ends or the buffer is full, however the bytes arrive.
 fn read_input(buffer: &mut [u8]) -> Input
-    ensures { λ r. ⌜ Within r (length (now (buffer .entry))) ⌝ }
+    ensures { λ r. ⌜ ReadInto r (length (now (buffer .entry))) ⌝ }
 {
     let mut n = 0;
     while n < buffer.len() {

@@ -5,8 +5,9 @@ use mathlib.Core.List.{List, [], _∷_, _++_, append-assoc, append-nil, flatMap}
 use native.Mathlib.Nat.{add-zero, zero-add, le-refl}
 use native.Mathlib.Numerals.{add-one}
 use native.Mathlib.Omega.{arith}
+use borrow.Rule.Slice.PartAt.{part-to-end}
 use lib.ListN.{length, set, take, drop, length-append, length-drop, drop-of-length-le}
-use lib.Seq.{sets, length-sets, sets-eq, drop-drop, take-all}
+use lib.Seq.{sets, length-sets, sets-eq, drop-drop}
 use Rattle.numbers.specs.Computed.{counting}
 use Rattle.listing.specs.Internal.{Wrote}
 
@@ -16,7 +17,8 @@ sets-append buffer at (b ∷ s) t =
     let next : at + suc (length s) ≡ suc at + length s = omega arith in
     rw next (sets-append (set buffer at b) (suc at) s t)
 
-sets-joined : (from middle : ℕ) (b₀ b₁ b₂ s t : List ℕ) → middle ≡ from + length s → b₁ ≡ sets b₀ from s → b₂ ≡ sets b₁ middle t → b₂ ≡ sets b₀ from (s ++ t)
+sets-joined : (from middle : ℕ) (b₀ b₁ b₂ s t : List ℕ) → middle ≡ from + length s → b₁ ≡ sets b₀ from s → b₂ ≡ sets b₁ middle t →
+    b₂ ≡ sets b₀ from (s ++ t)
 sets-joined from middle b₀ b₁ b₂ s t e f g = g ∙ rw (f, e) (sets-append b₀ from s t)
 
 -- what is written first, and what is written after it
@@ -31,18 +33,15 @@ _then_ {from} {middle} {to} {b₀} {b₁} {b₂} {s} {t} p q = record {
 pub wrote-none : (at : ℕ) (buffer : List ℕ) → Wrote at buffer [] at buffer
 wrote-none at buffer = record { end = sym (add-zero at); room = refl; holds = refl }
 
--- a part up to the end
-pub part-all : (from : ℕ) (s : List ℕ) → take (length s - from) (drop from s) ≡ drop from s
-part-all from s = take-all (length s - from) (drop from s) (rw (length-drop from s) (le-refl _))
-
 -- bytes that were put to the start of the part from an index on
 pub wrote-part : (from n : ℕ) (buffer s part : List ℕ) → from + length s ≤ length buffer → n ≡ length s →
     part ≡ s ++ drop (length s) (take (length buffer - from) (drop from buffer)) →
     Wrote from buffer s (from + n) (take from buffer ++ (part ++ drop (length buffer - from) (drop from buffer)))
 wrote-part from n buffer s part room size e =
-    let end : drop (length buffer - from) (drop from buffer) ≡ [] = drop-of-length-le (drop from buffer) {i = length buffer - from} (rw (length-drop from buffer) (le-refl _)) in
+    let end : drop (length buffer - from) (drop from buffer) ≡ [] =
+    drop-of-length-le (drop from buffer) {i = length buffer - from} (rw (length-drop from buffer) (le-refl _)) in
     let all : sets buffer from s ≡ take from buffer ++ (part ++ drop (length buffer - from) (drop from buffer)) =
-    sets-eq s buffer from room ∙ rw (end, append-nil, e, part-all from buffer, drop-drop, append-assoc) in
+    sets-eq s buffer from room ∙ rw (end, append-nil, e, part-to-end buffer from, drop-drop, append-assoc) in
     record {
       end = ap (λ k. from + k) size;
       room = ap length (sym all) ∙ length-sets buffer from s;

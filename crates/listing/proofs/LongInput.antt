@@ -1,62 +1,27 @@
 -- An input that is longer than any that is not refused prints what its first 4,177 bytes print: whoever reads no further loses nothing.
 use Prim.Native.Nat.{ℕ, zero, suc, _+_, _≤_}
 use mathlib.Core.Path.{_≡_, refl, sym, ap, _∙_}
-use mathlib.Core.Bool.{Bool, true, false, cond}
-use mathlib.Core.List.{List, [], _∷_, map}
+use mathlib.Core.List.{List, [], _∷_}
 use native.Mathlib.Nat.{zero-add, suc-add}
 use native.Mathlib.Omega.{arith}
 use borrow.Author.Tests.{ne-eqb}
-use lib.Dec.{eqb, ltb}
 use lib.ListN.{length, take, drop, length-drop}
 use lib.Seq.{length-take-le, take-take, take-nil, getD-take}
-use Rattle.numbers.specs.Checks.{first, under, differ}
 use Rattle.numbers.specs.Folds.{firstIn}
 use Rattle.numbers.specs.Words.{wordAt}
 use Rattle.numbers.proofs.Checking.{under-zero, under-pass, differ-zero}
 use Rattle.numbers.proofs.Folding.{passed}
-use Rattle.image.specs.Image.{versionOf, baseOf, countOf, lengthsOf, codeAt, sizeOf, limitsOf}
-use Rattle.image.specs.Validation.{limitsCheck, markCheck, versionCheck, lengthCheck, lengthsCheck, layoutCheck, refusal, validated}
+use Rattle.numbers.proofs.Numbering.{not-zero}
+use Rattle.image.specs.Image.{versionOf, codeAt, limitsOf}
+use Rattle.image.specs.Validation.{limitsCheck, markCheck, versionCheck, layoutCheck, refusal, validated}
 use Rattle.image.specs.declared.Limits.{Limits}
 use Rattle.image.specs.declared.Validated.the-variants as Validated
+use Rattle.image.proofs.RefusalNumbers.{layout-numbered}
 use Rattle.checker.specs.declared.Verdict.the-variants.{Refused}
 use Rattle.listing.specs.Listing.{verdictLine, listing, imageIn, checkedInput}
 use Rattle.listing.proofs.Placing.{refused-listing, checked-refused, input-whole}
 
--- a check that gives 0 or k
-data Gives (k : ℕ) : ℕ → Type 0 where
-  pass : Gives k 0
-  fail : Gives k k
-
-by-test : {k : ℕ} (t : Bool) {a b : ℕ} → Gives k a → Gives k b → Gives k (cond t a b)
-by-test true x y = x
-by-test false x y = y
-
-under-gives : (a b k : ℕ) → Gives k (under a b k)
-unfolding under
-under-gives a b k = by-test (ltb a b) fail pass
-
-differ-gives : (a b k : ℕ) → Gives k (differ a b k)
-unfolding differ
-differ-gives a b k = by-test (eqb a b) pass fail
-
-infixr 5 _next_
-_next_ : {k a b : ℕ} → Gives k a → Gives k b → Gives k (first a b)
-unfolding first
-_next_ {k} {a} x y = by-test (eqb a 0) y x
-
-lengths-give : (lengths : List ℕ) → Gives 4 (firstIn (map lengthCheck lengths))
-unfolding firstIn lengthCheck
-lengths-give [] = pass
-lengths-give (n ∷ lengths) = under-gives n 1 4 next lengths-give lengths
-
-layout-gives : (image : List ℕ) → Gives 4 (layoutCheck image)
-unfolding layoutCheck lengthsCheck firstIn
-layout-gives image =
-    under-gives (countOf image) 1 4 next under-gives 32 (countOf image) 4 next lengths-give (lengthsOf image) next under-gives 4096 (sizeOf image) 4 next
-    under-gives (baseOf image) 0x8000 4 next under-gives 0x10000 (baseOf image + sizeOf image) 4 next
-    differ-gives (length image) (codeAt image + sizeOf image) 4 next pass
-
--- an image with a good layout has at most 8 + 2 * 32 + 4,096 bytes
+-- An image with a good layout has at most 8 + 2 * 32 + 4,096 bytes.
 layout-short : (image : List ℕ) → layoutCheck image ≡ 0 → length image ≤ 4168
 unfolding layoutCheck codeAt
 layout-short image e =
@@ -65,13 +30,11 @@ layout-short image e =
     omega (arith, under-zero _ _ 3 (p .1 .0), under-zero _ _ 3 (q .0), differ-zero _ _ 3 (q .1 .1 .1 .0))
 
 layout-long : (image : List ℕ) → 4169 ≤ length image → layoutCheck image ≡ 4
-layout-long image h = go (layout-gives image) refl
-  where
-    go : {n : ℕ} → Gives 4 n → layoutCheck image ≡ n → layoutCheck image ≡ 4
-    go pass e = let z : ⊥ = omega (arith, layout-short image e) in absurd z
-    go fail e = e
+layout-long image h =
+    let gives = not-zero (layout-numbered {low = 4} {high = 4} refl image) (λ e. omega (arith, layout-short image e)) in
+    omega (arith, gives .0, gives .1)
 
--- so a longer one is refused, by 4 at the last
+-- A longer image is refused, by 4 at the last.
 longRefusal : List ℕ → Limits → ℕ
 longRefusal image limits = firstIn (limitsCheck limits ∷ markCheck image ∷ versionCheck image ∷ 4 ∷ [])
 
@@ -81,7 +44,7 @@ long-refused image limits h =
     let some : longRefusal image limits ≡ 0 → ⊥ = λ e. omega (arith, passed _ e .1 .1 .1 .0) in
     rw (layout-long image h, ne-eqb (longRefusal image limits) 0 some)
 
--- whose number the first bytes decide
+-- The first bytes decide by which number.
 mark-front : (image : List ℕ) → 4169 ≤ length image → markCheck (take 4169 image) ≡ markCheck image
 unfolding markCheck
 mark-front image h =

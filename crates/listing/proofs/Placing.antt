@@ -5,36 +5,38 @@ use mathlib.Core.List.{List, _++_, append-nil, flatMap}
 use native.Mathlib.Nat.{zero-add, le-trans}
 use native.Mathlib.Omega.{arith}
 use borrow.Author.Tests.{lt-ltb, le-ltb, ne-eqb}
+use borrow.Rule.Slice.PartAt.{part-to-end}
 use lib.Dec.{ltb}
 use lib.ListN.{length, getD, take, drop, length-append}
-use Rattle.numbers.proofs.Checking.{by-cond}
 use lib.Seq.{sets-eq, drop-drop}
+use Rattle.numbers.specs.Computed.{counting}
+use Rattle.numbers.proofs.Checking.{by-cond}
 use Rattle.stm8.specs.Decoding.{decoded}
 use Rattle.stm8.specs.declared.Decoded.{Decoded}
-use Rattle.numbers.specs.Computed.{counting}
 use Rattle.stm8.specs.declared.Instruction.{Instruction}
 use Rattle.disassembly.specs.Notation.{text, placed}
-use Rattle.disassembly.proofs.Placing.{text-placed}
 use Rattle.disassembly.specs.declared.Written.{Written}
 use Rattle.disassembly.specs.declared.Written.the-variants.{Bytes, TooShort}
+use Rattle.disassembly.proofs.Placing.{text-placed}
 use Rattle.image.specs.Image.{baseOf, codeAt, codeOf, sizeOf, layoutOf, limitsOf}
 use Rattle.image.specs.Validation.{validated}
+use Rattle.image.specs.ValidLayout.{ValidLayout}
 use Rattle.image.specs.declared.Limits.{Limits}
 use Rattle.image.specs.declared.Layout.{Layout}
 use Rattle.image.specs.declared.Validated.the-variants as Validated
-use Rattle.image.proofs.Layouts.{valid-bounds}
 use Rattle.checker.specs.Check.{checked}
 use Rattle.checker.specs.declared.Verdict.{Verdict}
 use Rattle.checker.specs.declared.Verdict.the-variants.{Accepted, Refused}
 use Rattle.listing.specs.Listing.{verdictLine, startLine, lineAt, listing, longest, listed, imageIn, checkedInput}
-use Rattle.listing.specs.Internal.{Wrote, Laid}
-use Rattle.listing.proofs.Appending.{part-all}
+use Rattle.listing.specs.Internal.{Wrote}
 
-pub listed-short : (image marks buffer : List ℕ) (outcome : Verdict × List ℕ) → length buffer < longest → listed image marks buffer outcome ≡ (TooShort, marks, buffer)
+pub listed-short : (image marks buffer : List ℕ) (outcome : Verdict × List ℕ) → length buffer < longest →
+    listed image marks buffer outcome ≡ (TooShort, marks, buffer)
 unfolding listed
 listed-short image marks buffer outcome h = rw (lt-ltb (length buffer) longest h)
 
-placed-start : (buffer lines after : List ℕ) (end : ℕ) → Wrote 0 buffer lines end after → length lines ≤ length buffer → (end ≡ length lines) × (after ≡ lines ++ drop (length lines) buffer)
+placed-start : (buffer lines after : List ℕ) (end : ℕ) → Wrote 0 buffer lines end after → length lines ≤ length buffer →
+    (end ≡ length lines) × (after ≡ lines ++ drop (length lines) buffer)
 placed-start buffer lines after end w h =
     (w .end ∙ zero-add (length lines), w .holds ∙ sets-eq lines buffer 0 (rw (zero-add (length lines)) h) ∙ rw (zero-add (length lines)))
 
@@ -47,8 +49,9 @@ listed-fits image marks buffer outcome room size end marks′ buffer′ w e =
     rw (le-ltb (length buffer) longest room, p .0, p .1, e)
 
 -- the text of an instruction in a part that has room for any
-pub text-written : (address : ℕ) (i : Instruction) (part after : List ℕ) (written : Written) (n : ℕ) → (written, after) ≡ placed (text address i) part →
-    23 ≤ length part → written ≡ Bytes n → (n ≡ length (text address i)) × (after ≡ text address i ++ drop (length (text address i)) part)
+pub text-written : (address : ℕ) (i : Instruction) (part after : List ℕ) (written : Written) (n : ℕ) →
+    (written, after) ≡ placed (text address i) part → 23 ≤ length part → written ≡ Bytes n →
+    (n ≡ length (text address i)) × (after ≡ text address i ++ drop (length (text address i)) part)
 text-written address i part after written n e room is =
     let p = e ∙ text-placed address i part room in
     let w : written ≡ Bytes (length (text address i)) = ap (λ (x : Written × List ℕ). x .0) p in
@@ -62,15 +65,15 @@ text-fits address i part after written e room is =
     omega arith
 
 -- the line of a start
-pub line-start : (image marks : List ℕ) (layout : Layout) (offset mark : ℕ) (d : Decoded) → Laid image layout → mark ≡ getD marks offset 0 → (mark ≡ 0 → ⊥) →
-    d ≡ decoded (take (length image - (layout .code + offset)) (drop (layout .code + offset) image)) →
+pub line-start : (image marks : List ℕ) (layout : Layout) (offset mark : ℕ) (d : Decoded) → ValidLayout image layout →
+    mark ≡ getD marks offset 0 → (mark ≡ 0 → ⊥) → d ≡ decoded (take (length image - (layout .code + offset)) (drop (layout .code + offset) image)) →
     startLine (layout .base + offset) (mark - 1) d ≡ lineAt image marks offset
 unfolding lineAt codeOf layoutOf
 line-start image marks layout offset mark d laid is some e =
     let from = layout .code + offset in
     let code : layout .code ≡ codeAt image = ap (λ (l : Layout). l .code) (laid .is) in
     let base : layout .base ≡ baseOf image = ap (λ (l : Layout). l .base) (laid .is) in
-    rw (← is, ne-eqb mark 0 some, e, part-all from image, base, code, drop-drop)
+    rw (← is, ne-eqb mark 0 some, e, part-to-end image from, base, code, drop-drop)
 
 -- what was written lies within the buffer
 pub listed-within : (image marks buffer : List ℕ) (outcome : Verdict × List ℕ) (n : ℕ) (marks′ buffer′ : List ℕ) →
@@ -118,10 +121,4 @@ input-whole input marks h = rw (le-ltb (length input) 8 h)
 pub input-listed : (input marks buffer : List ℕ) (limits : Limits) → 8 ≤ length input → limits ≡ limitsOf input →
     listed (take (length input - 8) (drop 8 input)) marks buffer (checked (take (length input - 8) (drop 8 input)) limits marks) ≡
     listed (imageIn input) marks buffer (checkedInput input marks)
-input-listed input marks buffer limits h e = rw (part-all 8 input, e, input-whole input marks h)
-
--- what a valid image's layout says
-pub valid-laid : (image : List ℕ) (limits : Limits) (layout : Layout) → validated image limits ≡ Validated.Valid layout → Laid image layout
-valid-laid image limits layout e =
-    let b = valid-bounds image limits layout e in
-    record { is = b .is; end = b .end; size = b .size .1; top = b .top }
+input-listed input marks buffer limits h e = rw (part-to-end input 8, e, input-whole input marks h)

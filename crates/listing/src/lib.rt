@@ -34,7 +34,8 @@ fn list_valid(
 ) -> usize
     requires { ⌜ (validated (now image) limits ≡ Valid layout) × (longest ≤ length (now buffer)) ⌝ }
     ensures { λ r. ⌜ now (marks .exit) ≡ checked (now (image .entry)) limits (now (marks .entry)) .1 ⌝ }
-    ensures { λ r. ⌜ Wrote 0 (now (buffer .entry)) (listing (now (image .entry)) (checked (now (image .entry)) limits (now (marks .entry)))) r (now (buffer .exit)) ⌝ }
+    ensures { λ r. ⌜
+        Wrote 0 (now (buffer .entry)) (listing (now (image .entry)) (checked (now (image .entry)) limits (now (marks .entry)))) r (now (buffer .exit)) ⌝ }
 {
     let v = check(image, limits, marks);
     let at = write_verdict(buffer, v);
@@ -46,7 +47,8 @@ fn list_valid(
 
 // Checks an image under limits and writes the listing to the start of the buffer, which has room for any: a buffer shorter than LONGEST is refused.
 pub fn list(image: &[u8], limits: Limits, marks: &mut [u16], buffer: &mut [u8]) -> Written
-    ensures { λ r. ⌜ (r, now (marks .exit), now (buffer .exit)) ≡ listed (now (image .entry)) (now (marks .entry)) (now (buffer .entry)) (checked (now (image .entry)) limits (now (marks .entry))) ⌝ }
+    ensures { λ r. ⌜ (r, now (marks .exit), now (buffer .exit)) ≡
+        listed (now (image .entry)) (now (marks .entry)) (now (buffer .entry)) (checked (now (image .entry)) limits (now (marks .entry))) ⌝ }
 {
     if buffer.len() < LONGEST {
         return Written::TooShort;
@@ -69,7 +71,8 @@ pub fn list(image: &[u8], limits: Limits, marks: &mut [u16], buffer: &mut [u8]) 
 
 // The same for an input that has the limits in its first eight bytes, then the image; fewer bytes are refused with 1.
 pub fn list_input(input: &[u8], marks: &mut [u16], buffer: &mut [u8]) -> Written
-    ensures { λ r. ⌜ (r, now (marks .exit), now (buffer .exit)) ≡ listed (imageIn (now (input .entry))) (now (marks .entry)) (now (buffer .entry)) (checkedInput (now (input .entry)) (now (marks .entry))) ⌝ }
+    ensures { λ r. ⌜ (r, now (marks .exit), now (buffer .exit)) ≡
+        listed (imageIn (now (input .entry))) (now (marks .entry)) (now (buffer .entry)) (checkedInput (now (input .entry)) (now (marks .entry))) ⌝ }
 {
     if buffer.len() < LONGEST {
         return Written::TooShort;

@@ -5,9 +5,10 @@ ghost use Prim.Native.Nat.{_+_, _*_, _≤_, _<_};
 ghost use lib.ListN.{length, getD};
 ghost use Rattle.numbers.specs.Ascii.{ascii};
 ghost use Rattle.numbers.specs.Computed.{counting};
+ghost use Rattle.image.specs.ValidLayout.{ValidLayout};
 ghost use Rattle.listing.specs.Decimal.{decimal};
 ghost use Rattle.listing.specs.Listing.{lineFeed, verdictLine, textAt, startLine, lineAt};
-ghost use Rattle.listing.specs.Internal.{Wrote, Laid};
+ghost use Rattle.listing.specs.Internal.{Wrote};
 use crate::writing::push;
 use crate::writing::push_bytes;
 use crate::writing::push_decimal;
@@ -90,7 +91,7 @@ fn push_line(
     marks: &[u16],
     offset: usize,
 ) -> usize
-    requires { ⌜ Laid (now image) layout × (offset < layout .size) × (at + 35 ≤ length (now buffer)) ⌝ }
+    requires { ⌜ ValidLayout (now image) layout × (offset < layout .size) × (at + 35 ≤ length (now buffer)) ⌝ }
     ensures { λ r. ⌜ Wrote at (now (buffer .entry)) (lineAt (now (image .entry)) (now (marks .entry)) offset) r (now (buffer .exit)) ⌝ }
 {
     let mark = mark_at(marks, offset);
@@ -110,8 +111,9 @@ pub fn push_starts(
     layout: Layout,
     marks: &[u16],
 ) -> usize
-    requires { ⌜ Laid (now image) layout × (at + 35 * layout .size ≤ length (now buffer)) ⌝ }
-    ensures { λ r. ⌜ Wrote at (now (buffer .entry)) (flatMap (lineAt (now (image .entry)) (now (marks .entry))) (counting (layout .size) 0)) r (now (buffer .exit)) ⌝ }
+    requires { ⌜ ValidLayout (now image) layout × (at + 35 * layout .size ≤ length (now buffer)) ⌝ }
+    ensures { λ r. ⌜
+        Wrote at (now (buffer .entry)) (flatMap (lineAt (now (image .entry)) (now (marks .entry))) (counting (layout .size) 0)) r (now (buffer .exit)) ⌝ }
 {
     let mut end = at;
     let mut offset = 0;

@@ -16,8 +16,11 @@ use machine::RunAnswer;
 use machine::StepAnswer;
 use numbers::words::byte_at;
 use numbers::words::word_at;
+use vectors::byte_text;
 use vectors::put_cells;
 use vectors::registers_of;
+use vectors::registers_text;
+use vectors::word_text;
 
 fn print(text: &[u8]) {
     io::write_all(STDOUT_FILENO, text);
@@ -28,18 +31,16 @@ fn print_number(name: &[u8], number: u64) {
     io::print_decimal(STDOUT_FILENO, number);
 }
 
-fn print_hex(name: &[u8], value: u64, width: usize) {
-    print(name);
-    io::print_hex(STDOUT_FILENO, value, width);
+fn print_registers(r: Registers) {
+    print(b": ");
+    print(&registers_text(r));
 }
 
-fn print_registers(r: Registers) {
-    print_hex(b": A ", r.a as u64, 2);
-    print_hex(b" X ", r.x as u64, 4);
-    print_hex(b" Y ", r.y as u64, 4);
-    print_hex(b" CC ", r.cc as u64, 2);
-    print_hex(b" SP ", r.sp as u64, 4);
-    print_hex(b" PC ", r.pc as u64, 6);
+fn print_cell(address: u16, byte: u8) {
+    print(b", ");
+    print(&word_text(address));
+    print(b" ");
+    print(&byte_text(byte));
 }
 
 // The bytes of memory at the addresses of cells.
@@ -47,8 +48,7 @@ fn print_cells(memory: &[u8], cells: &[u8]) {
     let mut at = 0;
     while at + 2 < cells.len() {
         let address = word_at(cells, at);
-        print_hex(b", ", address as u64, 4);
-        print_hex(b" ", byte_at(memory, address as usize) as u64, 2);
+        print_cell(address, byte_at(memory, address as usize));
         at += 3;
     }
     print(b"\n");

@@ -19,7 +19,8 @@ first-cell s at h =
     (next s (at + 1) (at + 2) (omega arith) (omega arith) ∙
     ap (λ (l : List ℕ). getD s (at + 1) 0 ∷ l) (next s (at + 2) (at + 3) (omega arith) (omega arith)))
 
-put-first : (m s : List ℕ) (at : ℕ) → at + 2 < length s → withCells m (drop at s) ≡ withCells (set m (wordAt s at) (getD s (at + 2) 0)) (drop (at + 3) s)
+put-first : (m s : List ℕ) (at : ℕ) → at + 2 < length s →
+    withCells m (drop at s) ≡ withCells (set m (wordAt s at) (getD s (at + 2) 0)) (drop (at + 3) s)
 unfolding withCells wordAt
 put-first m s at h = ap (withCells m) (first-cell s at h)
 
@@ -33,8 +34,8 @@ put-none m (a ∷ b ∷ x ∷ s) h = let z : ⊥ = omega arith in absurd z
 pub same-length : (m after m₀ : List ℕ) (a b : ℕ) → after ≡ set m a b → length m ≡ length m₀ → length after ≡ length m₀
 same-length m after m₀ a b e h = ap length e ∙ length-set m a b ∙ h
 
-pub turn : (m after whole s : List ℕ) (at a b : ℕ) → at + 2 < length s → a ≡ wordAt s at → b ≡ getD s (at + 2) 0 → after ≡ set m a b
-    → withCells m (drop at s) ≡ whole → withCells after (drop (at + 3) s) ≡ whole
+pub turn : (m after whole s : List ℕ) (at a b : ℕ) → at + 2 < length s → a ≡ wordAt s at → b ≡ getD s (at + 2) 0 → after ≡ set m a b →
+    withCells m (drop at s) ≡ whole → withCells after (drop (at + 3) s) ≡ whole
 turn m after whole s at a b h ea eb e known = rw (e, ea, eb) (sym (put-first m s at h) ∙ known)
 
 pub end : (m whole s : List ℕ) (at : ℕ) → length s ≤ at + 2 → withCells m (drop at s) ≡ whole → m ≡ whole

@@ -1,8 +1,15 @@
-// Registers and memory as bytes, in the form in which recorded steps and written cases give them.
+// Registers and memory: as bytes, in the form in which recorded steps and written cases give them, and as text, in which cases print them.
 ghost use mathlib.Core.Path.{_≡_};
+ghost use Prim.Native.Nat.{_≤_};
+ghost use lib.Seq.{sets};
+ghost use Rattle.disassembly.specs.Notation.{byteDigits, wordDigits};
 ghost use Rattle.vectors.specs.Bytes.{registersOf, withCells};
+ghost use Rattle.vectors.specs.Text.{registersText};
+use disassembly::hex_digit;
 use machine::Registers;
 use numbers::words::byte_at;
+use numbers::words::high;
+use numbers::words::low;
 use numbers::words::put_byte;
 use numbers::words::word_at;
 
@@ -30,4 +37,57 @@ pub fn put_cells(memory: &mut [u8], cells: &[u8])
         put_byte(memory, address, byte_at(cells, at + 2));
         at += 3;
     }
+}
+
+// The two hexadecimal digits of a byte.
+pub fn byte_text(n: u8) -> [u8; 2]
+    ensures { λ r. ⌜ r ≡ byteDigits n ⌝ }
+{
+    [hex_digit(n / 16), hex_digit(n)]
+}
+
+// The four of a word.
+pub fn word_text(w: u16) -> [u8; 4]
+    ensures { λ r. ⌜ r ≡ wordDigits w ⌝ }
+{
+    let h = high(w);
+    let l = low(w);
+    [
+        hex_digit(h / 16),
+        hex_digit(h),
+        hex_digit(l / 16),
+        hex_digit(l),
+    ]
+}
+
+fn put_byte_digits(text: &mut [u8], at: usize, n: u8)
+    requires { ⌜ at ≤ 40 ⌝ }
+    ensures { λ _. ⌜ now (text .exit) ≡ sets (now (text .entry)) at (byteDigits n) ⌝ }
+{
+    put_byte(text, at, hex_digit(n / 16));
+    put_byte(text, at + 1, hex_digit(n));
+}
+
+fn put_word_digits(text: &mut [u8], at: usize, w: u16)
+    requires { ⌜ at ≤ 38 ⌝ }
+    ensures { λ _. ⌜ now (text .exit) ≡ sets (now (text .entry)) at (wordDigits w) ⌝ }
+{
+    put_byte_digits(text, at, high(w));
+    put_byte_digits(text, at + 2, low(w));
+}
+
+// The registers by name; PC by its low 24 bits, which are all that it has.
+pub fn registers_text(r: Registers) -> [u8; 42]
+    ensures { λ t. ⌜ t ≡ registersText r ⌝ }
+{
+    let mut text = [0u8; 42];
+    bytes::copy(b"A .. X .... Y .... CC .. SP .... PC ......", &mut text);
+    put_byte_digits(&mut text, 2, r.a);
+    put_word_digits(&mut text, 7, r.x);
+    put_word_digits(&mut text, 14, r.y);
+    put_byte_digits(&mut text, 22, r.cc);
+    put_word_digits(&mut text, 28, r.sp);
+    put_byte_digits(&mut text, 36, (r.pc / 65536 % 256) as u8);
+    put_word_digits(&mut text, 38, (r.pc % 65536) as u16);
+    text
 }

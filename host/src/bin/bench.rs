@@ -1,9 +1,9 @@
 //! Speed, side by side in one run: the library, the twin, and the simulator uCsim (`sstm8`) where it is installed.
 //!
-//! Each figure is the best of many rounds of about a millisecond, in which library and twin take turns, so that other work on the machine weighs on
-//! neither.
+//! Each figure is the best of many rounds of about a millisecond, in which library and twin take turns, so that other work on the
+//! machine weighs on neither.
 
-use gate_host::{twin, Ending, Limits, Refusal, Registers, Run, MARKS_ENOUGH, MEMORY_BYTES};
+use gate_host::{slu, twin, Ending, Limits, Refusal, Registers, Run, MARKS_ENOUGH, MEMORY_BYTES};
 use std::fs;
 use std::hint::black_box;
 use std::io::Write;
@@ -57,7 +57,7 @@ fn print_table(lines: &[Line], installed: bool) {
         let (library, twin) = (cell(line.library), cell(line.twin));
         println!("{:<26} {:>16} {library:>10} {twin:>10} {:>14}", line.name, line.unit, simulator(line.simulator));
     }
-    println!("The library's decode always writes the text too; the twin's decode alone is given for comparison with itself.");
+    println!("The library has no decode without the text; the twin's shows how much of its time the text takes.");
     println!("Speed of the library, as a multiple of the other's:");
     // A time and the rate that it gives have the same ratio.
     for line in lines.iter().filter(|line| line.unit != "million/s") {
@@ -115,7 +115,7 @@ fn decodes() -> [Line; 2] {
     let (code, times) = code_and_count();
     let library = |bytes: &[u8], address: u16| {
         let decoded = black_box(gate_host::decode(bytes, address));
-        decoded.expect("an instruction").length as usize
+        decoded.expect("an instruction").length
     };
     let other = |bytes: &[u8], address: u16| {
         let (instruction, length) = twin::decode(bytes).expect("an instruction");
@@ -177,18 +177,7 @@ fn full_image() -> Vec<u8> {
         code.push(0x81);
         routines.push(code);
     }
-    image(&routines)
-}
-
-fn image(routines: &[Vec<u8>]) -> Vec<u8> {
-    let mut file = b"SLU\x00\x01".to_vec();
-    file.extend(BASE.to_be_bytes());
-    file.push(routines.len() as u8);
-    for routine in routines {
-        file.extend((routine.len() as u16).to_be_bytes());
-    }
-    file.extend(routines.concat());
-    file
+    slu::image_of(BASE, &routines)
 }
 
 // Steps and runs.
@@ -198,7 +187,7 @@ struct Workload {
 }
 
 impl Workload {
-    /// X counts down from 1000, `turns` times: about 8,000 steps a turn.
+    /// X counts down from 4,096, `turns` times: about 8,000 steps a turn.
     fn counter(turns: u16) -> Workload {
         let [high, low] = turns.to_be_bytes();
         // LDW Y,#turns; outer: LDW X,#$1000; inner: DECW X; JRNE inner; DECW Y; JRNE outer; RET
@@ -242,7 +231,7 @@ impl Workload {
     }
 
     fn image(&self) -> Vec<u8> {
-        image(&self.routines)
+        slu::image_of(BASE, &self.routines)
     }
 }
 
@@ -297,8 +286,8 @@ fn runs(name: &'static str, workload: fn(u16) -> Workload) -> Line {
     Line { name, unit: "million steps/s", library: rate(library), twin: rate(twin), simulator, rate: true }
 }
 
-// The simulator. It runs main from its first byte to its RET and counts the instructions itself. Its processor time is the shell's account
-// of it; a short run is taken off a long one, so that loading counts for nothing.
+// The simulator. It runs main from its first byte to its RET and counts the instructions itself. Its processor time is the shell's
+// account of it; a short run is taken off a long one, so that loading counts for nothing.
 
 /// Instructions a second of processor time.
 fn simulate(workload: fn(u16) -> Workload) -> Option<f64> {

@@ -76,12 +76,12 @@ impl<'a> Sweep<'a> {
         Ok(need)
     }
 
-    /// Tests one start, in the paper's order.
+    /// Tests one start, in document 01's order.
     fn start(&mut self, at: usize, fallen: Option<u16>, first: usize, end: usize) -> Result<After, Refusal> {
         let depth = match (fallen, self.bytes[at]) {
             (None, Byte::Target(jumped)) => jumped,
             (None, _) => return Err(Refusal::Unreached),
-            (Some(fallen), Byte::Target(jumped)) if fallen != jumped => return Err(Refusal::Depths),
+            (Some(fallen), Byte::Target(jumped)) if fallen != jumped => return Err(Refusal::DepthsDisagree),
             (Some(fallen), _) => fallen,
         };
         let (instruction, length) = decode(&self.image.code[at..end]).map_err(|why| match why {
@@ -94,7 +94,7 @@ impl<'a> Sweep<'a> {
         }
         self.bytes[at] = Byte::Start(depth);
         self.count += 1;
-        let after = depth_after(instruction, depth).ok_or(Refusal::Depth)?;
+        let after = depth_after(instruction, depth).ok_or(Refusal::DepthRange)?;
         if !store_allowed(instruction, depth, self.limits) {
             return Err(Refusal::Store);
         }
@@ -119,7 +119,7 @@ impl<'a> Sweep<'a> {
             _ => return Err(Refusal::Jump),
         };
         match self.bytes[target] {
-            Byte::Start(known) | Byte::Target(known) if known != depth => Err(Refusal::Depths),
+            Byte::Start(known) | Byte::Target(known) if known != depth => Err(Refusal::DepthsDisagree),
             Byte::Unknown if target < next => Err(Refusal::IntoInstruction),
             Byte::Unknown => {
                 self.bytes[target] = Byte::Target(depth);

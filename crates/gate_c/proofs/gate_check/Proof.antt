@@ -5,7 +5,9 @@ use Rattle.gate_c.proofs.gate_check.Tie as tie
 use Rattle.gate_c.proofs.Answers.{checked-by}
 
 returns : tie.Need-returns
-returns c = checked-by _ _ _ _ _ _ _ _ (c .before .before .before .before .before .before .limits .ensures) (c .before .before .before .before .check .ensures) (c .number .ensures) (c .before .report-cells .ensures)
+returns c =
+    let c4 = c .before .before .before .before in
+    checked-by _ _ _ _ _ _ _ _ (c4 .before .before .limits .ensures) (c4 .check .ensures) (c .number .ensures) (c .before .report-cells .ensures)
 
 pub gate-check-spec : {M : Type 1} → statement M
 gate-check-spec =

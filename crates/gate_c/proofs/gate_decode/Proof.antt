@@ -6,7 +6,11 @@ use Rattle.gate_c.proofs.gate_decode.Statement.{statement}
 use Rattle.gate_c.proofs.gate_decode.Tie as tie
 
 returns : tie.Need-returns
-returns c = rw (← c .before .before .before .before .decode .ensures) (c .decoding-number .ensures, (c .before .before .before .text-cells .ensures, ap (λ n. n ∷ []) (c .before .before .length-of .ensures)))
+returns c =
+    let c2 = c .before .before in
+    let c3 = c2 .before in
+    rw (← c3 .before .decode .ensures)
+    (c .decoding-number .ensures, (c3 .text-cells .ensures, ap (λ n. n ∷ []) (c2 .decoded-length .ensures)))
 
 pub gate-decode-spec : {M : Type 1} → statement M
 gate-decode-spec =

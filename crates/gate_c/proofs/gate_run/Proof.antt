@@ -6,7 +6,12 @@ use Rattle.gate_c.proofs.gate_run.Tie as tie
 use Rattle.gate_c.proofs.Answers.{ran-by}
 
 returns : tie.Need-returns
-returns c = ran-by _ _ _ _ _ _ _ _ _ _ _ _ (c .before .before .before .before .before .before .before .before .before .limits .ensures) (c .before .before .before .before .before .before .before .registers-in .ensures) (c .before .before .before .before .before .run .ensures) (c .run-code .ensures) (c .before .before .register-cells .ensures) refl
+returns c =
+    let c2 = c .before .before in
+    let c5 = c2 .before .before .before in
+    let c7 = c5 .before .before in
+    ran-by _ _ _ _ _ _ _ _ _ _ _ _ (c7 .before .before .limits .ensures) (c7 .registers-in .ensures) (c5 .run .ensures)
+    (c .run-code .ensures) (c2 .register-cells .ensures) refl
 
 pub gate-run-spec : {M : Type 1} → statement M
 gate-run-spec =

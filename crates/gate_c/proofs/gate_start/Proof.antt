@@ -5,7 +5,12 @@ use Rattle.gate_c.proofs.gate_start.Tie as tie
 use Rattle.gate_c.proofs.Answers.{started-by}
 
 returns : tie.Need-returns
-returns c = started-by _ _ _ _ _ _ _ _ _ _ _ _ _ (c .before .before .before .before .before .before .before .before .before .before .limits .ensures) (c .before .before .before .before .before .before .before .before .before .before .before .registers-in .ensures) (c .before .before .before .before .before .before .before .start .ensures) (c .number .ensures) (c .before .report-cells .ensures) (c .before .before .register-cells .ensures)
+returns c =
+    let c2 = c .before .before in
+    let c7 = c2 .before .before .before .before .before in
+    let c10 = c7 .before .before .before in
+    started-by _ _ _ _ _ _ _ _ _ _ _ _ _ (c10 .limits .ensures) (c10 .before .registers-in .ensures) (c7 .start .ensures)
+    (c .number .ensures) (c .before .report-cells .ensures) (c2 .register-cells .ensures)
 
 pub gate-start-spec : {M : Type 1} → statement M
 gate-start-spec =

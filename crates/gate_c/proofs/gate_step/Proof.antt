@@ -5,7 +5,11 @@ use Rattle.gate_c.proofs.gate_step.Tie as tie
 use Rattle.gate_c.proofs.Answers.{stepped-by}
 
 returns : tie.Need-returns
-returns c = stepped-by _ _ _ _ _ _ _ _ _ _ (c .before .before .before .before .before .before .before .before .limits .ensures) (c .before .before .before .before .before .before .registers-in .ensures) (c .before .before .before .before .step .ensures) (c .step-code .ensures) (c .before .register-cells .ensures)
+returns c =
+    let c4 = c .before .before .before .before in
+    let c6 = c4 .before .before in
+    stepped-by _ _ _ _ _ _ _ _ _ _ (c6 .before .before .limits .ensures) (c6 .registers-in .ensures) (c4 .step .ensures)
+    (c .step-code .ensures) (c .before .register-cells .ensures)
 
 pub gate-step-spec : {M : Type 1} → statement M
 gate-step-spec =

@@ -1,11 +1,12 @@
--- `gatecheck::read_input` meets its contract. The loop's invariant: what was read lies within the buffer, which keeps its length. The measure is what is left of it.
+-- `gatecheck::read_input` meets its contract. The loop's invariant: what was read lies within the buffer, which keeps its length. The measure is
+-- what is left of it.
 use Prim.Native.Nat.{ℕ, _-_, _≤_}
 use mathlib.Core.Path.{_≡_, refl, _∙_}
 use mathlib.Core.List.{List}
 use borrow.Author.Needs.{needs}
+use borrow.Rule.Slice.PartAt.{part-to-end}
 use native.Mathlib.Omega.{arith}
 use lib.ListN.{length, take, drop, length-drop}
-use Rattle.listing.proofs.Appending.{part-all}
 use Rattle.gatecheck.proofs.read_input.Statement.{statement}
 use Rattle.gatecheck.proofs.read_input.Tie as tie
 
@@ -17,7 +18,7 @@ abbrev μ-loop : tie.MeasureT-loop
 
 -- what came fits what was left
 fits : (n count : ℕ) (buffer : List ℕ) → count ≤ length (take (length buffer - n) (drop n buffer)) → count ≤ length buffer - n
-fits n count buffer h = rw (part-all n buffer, length-drop n buffer) at h
+fits n count buffer h = rw (part-to-end buffer n, length-drop n buffer) at h
 
 same-length : tie.Need-same-length Inv-loop μ-loop
 same-length c =

@@ -6,9 +6,9 @@ use borrow.Author.Needs.{needs}
 use denote.Ref.{now}
 use Rattle.checker.specs.Check.{checked}
 use Rattle.checker.specs.declared.Verdict.{Verdict}
-use Rattle.image.proofs.Layouts.{size-is}
+use Rattle.image.proofs.Layouts.{valid-bounds, size-is}
 use Rattle.listing.proofs.Appending.{_then_}
-use Rattle.listing.proofs.Placing.{valid-laid, accepted-listing, refused-listing}
+use Rattle.listing.proofs.Placing.{accepted-listing, refused-listing}
 use Rattle.listing.proofs.Sizes.{starts-room}
 use Rattle.listing.proofs.list_valid.Statement.{statement}
 use Rattle.listing.proofs.list_valid.Tie as tie
@@ -19,8 +19,8 @@ push-starts-requires c κs =
     let c10 = c6 .before .before .before .before in
     let c15 = c10 .before .before .before .before .before in
     let a = c15 .args in
-    let laid = valid-laid (now (a .image)) (a .limits) (a .layout) (c15 .pre .0) in
-    (laid, starts-room _ _ (c10 .check .result) _ _ (c6 .write-verdict .ensures) (c15 .pre .1) (laid .size))
+    let valid = valid-bounds (now (a .image)) (a .limits) (a .layout) (c15 .pre .0) in
+    (valid, starts-room _ _ (c10 .check .result) _ _ (c6 .write-verdict .ensures) (c15 .pre .1) (valid .size .1))
 
 returns : tie.Need-returns
 returns c =
@@ -34,7 +34,8 @@ returns c =
     let outcome = checked image (a .limits) (now (a .marks)) in
     let checks = c13 .check .ensures in (
       sym (ap (λ (o : Verdict × List ℕ). o .1) checks),
-      rw (accepted-listing image _ outcome (c13 .check .result) (a .layout .size) checks (c5 .enum-told .given .1) (size-is image (a .limits) (a .layout) (c18 .pre .0))) at
+      rw (accepted-listing image _ outcome (c13 .check .result) (a .layout .size) checks (c5 .enum-told .given .1)
+          (size-is image (a .limits) (a .layout) (c18 .pre .0))) at
           (c9 .write-verdict .ensures then c2 .push-starts .ensures),
     )
 

@@ -19,8 +19,8 @@ returns c =
     let a = c13 .before .before .before .before .args in
     let b = c9 .word-at .result * 65536 + c8 .word-at2 .result in
     let eb : b ≡ wordAt (now (a .case)) 22 * 65536 + wordAt (now (a .case)) 24 = rw (c9 .word-at .ensures, c8 .word-at2 .ensures) in
-    run-parts (now (a .image)) (now (a .memory)) _ (c13 .limits-of .result) _ (c11 .registers-of .result) _ (c13 .limits-of .ensures) (c11 .registers-of .ensures)
-    (c7 .run .result) b _ eb (c7 .run .ensures)
+    run-parts (now (a .image)) (now (a .memory)) _ (c13 .limits-of .result) _ (c11 .registers-of .result) _
+    (c13 .limits-of .ensures) (c11 .registers-of .ensures) (c7 .run .result) b _ eb (c7 .run .ensures)
 
 pub run-case-spec : {M : Type 1} → statement M
 run-case-spec =

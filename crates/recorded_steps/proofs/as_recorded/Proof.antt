@@ -1,12 +1,13 @@
 -- `recorded_steps::as_recorded` meets its contract.
 use Prim.Native.Nat.{_+_}
 use mathlib.Core.Path.{sym, ap}
+use mathlib.Core.Bool.{false≢true}
 use native.Mathlib.Omega.{arith}
 use denote.Ref.{now}
 use lib.ListN.{length}
 use lib.Seq.{length-take-le}
 use borrow.Author.Needs.{needs}
-use Rattle.recorded_steps.proofs.Comparing.{never, record-goes}
+use Rattle.recorded_steps.proofs.Comparing.{record-goes}
 use Rattle.recorded_steps.proofs.as_recorded.Statement.{statement}
 use Rattle.recorded_steps.proofs.as_recorded.Tie as tie
 
@@ -34,8 +35,8 @@ as-recorded-spec =
     (λ c κs. tt)
     (λ c. search needs)
     (λ c. search needs)
-    (λ c h. never h)
-    (λ c h. never h)
+    (λ c h. absurd (false≢true h))
+    (λ c h. absurd (false≢true h))
     (λ c κs. c .before .before .if2 .left)
     (λ c κs. tt)
     (λ c. search needs)

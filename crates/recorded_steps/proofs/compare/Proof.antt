@@ -1,7 +1,6 @@
 -- `recorded_steps::compare` meets its contract: the count of records rises to 10,000 at most.
 use Prim.Native.Nat.{_≤_, _-_}
 use native.Mathlib.Omega.{arith}
-use borrow.Author.Needs.{needs}
 use Rattle.recorded_steps.proofs.compare.Statement.{statement}
 use Rattle.recorded_steps.proofs.compare.Tie as tie
 

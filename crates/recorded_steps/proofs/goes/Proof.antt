@@ -1,9 +1,9 @@
 -- `recorded_steps::goes` meets its contract.
-use mathlib.Core.Bool.{true}
+use mathlib.Core.Bool.{false≢true}
 use denote.Ref.{now}
 use borrow.Author.Needs.{needs}
 use borrow.Author.Tests.{not-false}
-use Rattle.recorded_steps.proofs.Comparing.{never, step-goes}
+use Rattle.recorded_steps.proofs.Comparing.{step-goes}
 use Rattle.recorded_steps.proofs.goes.Statement.{statement}
 use Rattle.recorded_steps.proofs.goes.Tie as tie
 
@@ -16,7 +16,8 @@ returns-3 c =
     let a = c10 .before .before .before .before .before .args in
     λ h.
     step-goes (now (a .image)) (c10 .limits-of .result) (a .before) (now (a .memory)) (c8 .step .result) _ (a .after) (now (a .expected))
-    (c10 .limits-of .ensures) (c8 .step .ensures) (c4 .enum-told .given .1) (c2 .before .same-registers .ensures (not-false _ (c2 .if1 .left))) (c .same .ensures .0 h)
+    (c10 .limits-of .ensures) (c8 .step .ensures) (c4 .enum-told .given .1)
+    (c2 .before .same-registers .ensures (not-false _ (c2 .if1 .left))) (c .same .ensures .0 h)
 
 pub goes-spec : {M : Type 1} → statement M
 goes-spec =
@@ -27,10 +28,10 @@ goes-spec =
     (λ c κs. tt)
     (λ c. search needs)
     (λ c. search needs)
-    (λ c h. never h)
+    (λ c h. absurd (false≢true h))
     (λ c κs. tt)
     (λ c. search needs)
-    (λ c h. never h)
+    (λ c h. absurd (false≢true h))
     (λ c κs. tt)
     (λ c. search needs)
     returns-3)

@@ -1,5 +1,6 @@
 -- `recorded_steps::same_registers` meets its contract.
-use Rattle.recorded_steps.proofs.Comparing.{never, registers-equal}
+use mathlib.Core.Bool.{false≢true}
+use Rattle.recorded_steps.proofs.Comparing.{registers-equal}
 use Rattle.recorded_steps.proofs.same_registers.Statement.{statement}
 use Rattle.recorded_steps.proofs.same_registers.Tie as tie
 
@@ -16,4 +17,10 @@ returns-6 c =
 pub same-registers-spec : {M : Type 1} → statement M
 same-registers-spec =
     tie.close
-    (tie.spec (λ c h. never h) (λ c h. never h) (λ c h. never h) (λ c h. never h) (λ c h. never h) returns-6)
+    (tie.spec
+    (λ c h. absurd (false≢true h))
+    (λ c h. absurd (false≢true h))
+    (λ c h. absurd (false≢true h))
+    (λ c h. absurd (false≢true h))
+    (λ c h. absurd (false≢true h))
+    returns-6)

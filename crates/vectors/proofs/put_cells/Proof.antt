@@ -30,7 +30,8 @@ loop-again c =
     let s = now (start .args .cells) in (
       omega arith,
       keeps-length m _ (now (start .args .memory)) _ _ (c2 .put-byte .ensures) (v .inv .1),
-      turn m _ _ s (v .at) _ _ (c5 .before .loop-test .taken) (c5 .word-at .ensures) (c2 .before .byte-at .ensures) (c2 .put-byte .ensures) (v .inv .2),
+      turn m _ _ s (v .at) _ _ (c5 .before .loop-test .taken) (c5 .word-at .ensures) (c2 .before .byte-at .ensures)
+          (c2 .put-byte .ensures) (v .inv .2),
     )
 
 returns : tie.Need-returns Inv-loop μ-loop

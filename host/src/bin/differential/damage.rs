@@ -69,7 +69,8 @@ impl Generator<'_> {
         }
     }
 
-    /// Some jump of sound code is made to go to another start, of whatever depth and routine, or a byte past the one that it goes to.
+    /// Some jump of sound code is made to go to another start, of whatever depth and routine, or a byte past the one that it goes
+    /// to.
     fn retarget(&mut self, code: &mut [u8]) {
         let instructions = sweep(code);
         let is_jump = |instruction| matches!(instruction, Instruction::Jump(..) | Instruction::BitJump { .. });
@@ -85,7 +86,8 @@ impl Generator<'_> {
         }
     }
 
-    /// The last operand byte of some instruction of sound code goes up or down by one: a count, an offset into the stack, an address.
+    /// The last operand byte of some instruction of sound code goes up or down by one: a count, an offset into the stack, an
+    /// address.
     fn nudge(&mut self, code: &mut [u8]) {
         let longer = sweep(code).into_iter().filter(|&(at, _, next)| next - at >= 2);
         let nexts: Vec<usize> = longer.map(|(_, _, next)| next).collect();

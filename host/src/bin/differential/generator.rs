@@ -2,7 +2,7 @@
 
 use crate::random::Random;
 use gate_host::twin::{self, Instruction, Modify, Place, Target};
-use gate_host::Limits;
+use gate_host::{slu, Limits};
 
 const CODE_AT_MOST: usize = 4_096;
 
@@ -12,7 +12,8 @@ pub struct Case {
     pub image: Vec<u8>,
     pub limits: Limits,
     pub marks: usize,
-    /// What acceptance leaves in the marks of the code, where the image was made to be accepted: all but refusal 16 is then ruled out.
+    /// What acceptance leaves in the marks of the code, where the image was made to be accepted: all but refusal 16 is then ruled
+    /// out.
     pub depths: Option<Vec<u16>>,
 }
 
@@ -344,7 +345,7 @@ impl Generator<'_> {
             _ => self.random.between(0x8000, 0x1_0000 - code.len()),
         };
         let marks = code.len() + self.random.below(3);
-        Case { image: file(base, &lengths, &code), limits, marks, depths: None }
+        Case { image: slu::image(base as u16, &lengths, &code), limits, marks, depths: None }
     }
 
     // Borders of the layout.
@@ -370,7 +371,7 @@ impl Generator<'_> {
         let top = 0x1_0000 - total;
         let base = self.random.pick(&[0x7FFF, 0x8000, 0x8001, top - 1, top, (top + 1).min(0xFFFF)]);
         let marks = total - self.random.pick(&[0, 0, 0, 1]);
-        Case { image: file(base, &lengths, &code), limits, marks, depths: None }
+        Case { image: slu::image(base as u16, &lengths, &code), limits, marks, depths: None }
     }
 }
 
@@ -391,19 +392,8 @@ impl Program {
             let address = (base + callee) as u16;
             self.code[operand..operand + 2].copy_from_slice(&address.to_be_bytes());
         }
-        file(base, &self.lengths, &self.code)
+        slu::image(base as u16, &self.lengths, &self.code)
     }
-}
-
-fn file(base: usize, lengths: &[usize], code: &[u8]) -> Vec<u8> {
-    let mut file = b"SLU\x00\x01".to_vec();
-    file.extend((base as u16).to_be_bytes());
-    file.push(lengths.len() as u8);
-    for &length in lengths {
-        file.extend((length as u16).to_be_bytes());
-    }
-    file.extend(code);
-    file
 }
 
 /// A jump whose target is not chosen yet, unless it is fixed.

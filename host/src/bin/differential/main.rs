@@ -2,8 +2,9 @@
 //!
 //!     differential [--seed S] [--checks N] [--steps N] [--case K]
 //!
-//! Cases are made until at least N checks were compared, and N single steps that were made. A difference prints the seed, the case and both answers, and
-//! `--seed S --case K` makes that case again. The exit status is 1 where something differs, or where some answer was never met.
+//! Cases are made until at least N checks were compared, and N single steps that were made. A difference prints the seed, the
+//! case and both answers, and `--seed S --case K` makes that case again. The exit status is 1 where something differs, or where
+//! some answer was never met.
 
 mod compare;
 mod damage;

@@ -20,7 +20,9 @@ returns-2 c =
     let c9 = c8 .before in
     let c13 = c9 .before .before .before .before in
     let a = c13 .args in
-    rw (line-start (now (a .image)) (now (a .marks)) (a .layout) (a .offset) (c9 .mark-at .result) _ (c13 .pre .0) (c9 .mark-at .ensures) (c8 .if1 .left) (c5 .decode .ensures)) at (c2 .push-start .ensures)
+    let line = line-start (now (a .image)) (now (a .marks)) (a .layout) (a .offset) (c9 .mark-at .result) _ (c13 .pre .0)
+    (c9 .mark-at .ensures) (c8 .if1 .left) (c5 .decode .ensures) in
+    rw line at (c2 .push-start .ensures)
 
 pub push-line-spec : {M : Type 1} → statement M
 push-line-spec =

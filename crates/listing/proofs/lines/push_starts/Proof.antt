@@ -1,4 +1,5 @@
--- `listing::lines::push_starts` meets its contract. The loop's invariant: the lines of the code bytes before the offset are written, and there is room for 35 bytes for each one left.
+-- `listing::lines::push_starts` meets its contract. The loop's invariant: the lines of the code bytes before the offset are written, and there is
+-- room for 35 bytes for each one left.
 use Prim.Native.Nat.{_+_, _-_, _*_, _≤_}
 use mathlib.Core.Path.{_≡_}
 use mathlib.Core.List.{flatMap}

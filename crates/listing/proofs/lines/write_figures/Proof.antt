@@ -7,14 +7,19 @@ use Rattle.listing.proofs.lines.write_figures.Statement.{statement}
 use Rattle.listing.proofs.lines.write_figures.Tie as tie
 
 push-requires : tie.Need-push-requires
-push-requires c κs = omega (arith, decimal-size (c .before .before .before .before .before .before .before .before .before .before .before .args .a))
+push-requires c κs =
+    let c6 = c .before .before .before .before .before .before in
+    omega (arith, decimal-size (c6 .before .before .before .before .before .args .a))
 
 push-decimal-requires-2 : tie.Need-push-decimal-requires-2
-push-decimal-requires-2 c κs = omega (arith, decimal-size (c .before .before .before .before .before .before .before .before .before .before .before .before .before .before .before .args .a))
+push-decimal-requires-2 c κs =
+    let c8 = c .before .before .before .before .before .before .before .before in
+    omega (arith, decimal-size (c8 .before .before .before .before .before .before .before .args .a))
 
 push-requires-2 : tie.Need-push-requires-2
 push-requires-2 c κs =
-    let args = c .before .before .before .before .before .before .before .before .before .before .before .before .before .before .before .before .before .before .before .args in
+    let c10 = c .before .before .before .before .before .before .before .before .before .before in
+    let args = c10 .before .before .before .before .before .before .before .before .before .args in
     omega (arith, decimal-size (args .a), decimal-size (args .b))
 
 returns : tie.Need-returns

@@ -3,17 +3,18 @@ use Prim.Native.Nat.{ℕ, _+_, _-_, _≤_}
 use mathlib.Core.List.{List}
 use lib.ListN.{length, take, drop, length-drop}
 use borrow.Author.Needs.{needs}
+use borrow.Rule.Slice.PartAt.{part-to-end}
 use native.Mathlib.Omega.{arith}
 use denote.Ref.{now}
 use Rattle.disassembly.specs.Notation.{text}
 use Rattle.disassembly.proofs.Sizes.{text-size}
-use Rattle.listing.proofs.Appending.{part-all, wrote-part}
+use Rattle.listing.proofs.Appending.{wrote-part}
 use Rattle.listing.proofs.Placing.{text-written, text-fits}
 use Rattle.listing.proofs.writing.push_text.Statement.{statement}
 use Rattle.listing.proofs.writing.push_text.Tie as tie
 
 room : (from : ℕ) (buffer : List ℕ) → from + 23 ≤ length buffer → 23 ≤ length (take (length buffer - from) (drop from buffer))
-room from buffer h = rw (part-all from buffer, length-drop from buffer) (omega arith)
+room from buffer h = rw (part-to-end buffer from, length-drop from buffer) (omega arith)
 
 add-result : tie.Need-add-result
 add-result c =
