@@ -1,5 +1,5 @@
 -- What an instruction moves and stores where a routine stands: no trap stops it, and it writes to the grant and the routine's own stack bytes alone.
-use Prim.Native.Nat.{ℕ, _+_, _≤_, _<_}
+use Prim.Native.Nat.{ℕ, _+_, _-_, _≤_, _<_}
 use mathlib.Core.Path.{_≡_, refl}
 use mathlib.Core.List.{List}
 use native.Mathlib.Omega.{arith}
@@ -12,7 +12,8 @@ use Rattle.stm8.specs.declared.Place.{Place}
 use Rattle.stm8.specs.declared.Place.the-variants.{Nowhere, Direct, OnStack, Pushed}
 use Rattle.stm8.specs.declared.Effect.{Effect}
 use Rattle.image.specs.declared.Limits.{Limits}
-use Rattle.image.specs.Rules.{Within, LimitsRules}
+use Rattle.image.specs.Access.{Granted}
+use Rattle.image.specs.Rules.{LimitsRules}
 use Rattle.image.proofs.Granting.{within-granted}
 use Rattle.machine.specs.Step.{moveTrap, storeTrap, spAfter, bytesOfWidth, memoryAfter}
 use Rattle.machine.proofs.Stores.{sets-other, bytes-length, size-kept}
@@ -46,7 +47,7 @@ module _ (limits : Limits) (areas : LimitsRules limits) (total need sp d : ℕ) 
 
     -- a byte outside the grant and the routine's own stack bytes is as it was
     kept : (place : Place) (value : ℕ) (memory : List ℕ) → StoreRules limits d place → PushesOwn place (e .pushes) → (address : ℕ) →
-        (Within (limits .grant) address → ⊥) → (limits .stack .high < address + total → address ≤ sp + d → ⊥) →
+        (Granted limits address → ⊥) → (limits .stack .high < address + total → address ≤ sp + d → ⊥) →
         getD (memoryAfter memory sp e value place) address 0 ≡ getD memory address 0
     unfolding memoryAfter
     kept Nowhere value memory h p address grant stack = refl

@@ -1,4 +1,4 @@
-// Runs refusals 1 to 4 and acceptance at the borders that check_cases has no case of, a line a case: what the case is about, and the
+// Runs refusals 1 to 4 and acceptance at the borders that gate_cases has no case of, a line a case: what the case is about, and the
 // refusal's number, 0 where nothing is refused.
 ghost use Prim.Native.Nat.{_+_, _≤_};
 ghost use lib.ListN.{length};
