@@ -172,7 +172,8 @@ fn flow_check(
     flow: Flow,
 ) -> u8
     requires { ⌜ (r .start ≤ 4096) × (r .end ≤ 4096) × (next ≤ 4096) ⌝ }
-    ensures { λ x. ⌜ ((image : List ℕ) → base ≡ baseOf image → callee ≡ called image (r .index) next flow → x ≡ flowCheck image (now (marks .entry)) r next mark flow) ⌝ }
+    ensures { λ x. ⌜ ((image : List ℕ) → base ≡ baseOf image → callee ≡ called image (r .index) next flow →
+        x ≡ flowCheck image (now (marks .entry)) r next mark flow) ⌝ }
 {
     match flow {
         Flow::Next => 0,
@@ -209,7 +210,8 @@ pub fn instruction_check(
     callee: usize,
 ) -> u8
     requires { ⌜ (r .start ≤ 4096) × (r .end ≤ 4096) × (at + n ≤ 4096) × (depth ≤ 65535) ⌝ }
-    ensures { λ x. ⌜ ((image : List ℕ) → base ≡ baseOf image → callee ≡ called image (r .index) (at + n) (e .flow) → x ≡ instructionCheck image limits (now (marks .entry)) r at depth n e) ⌝ }
+    ensures { λ x. ⌜ ((image : List ℕ) → base ≡ baseOf image → callee ≡ called image (r .index) (at + n) (e .flow) →
+        x ≡ instructionCheck image limits (now (marks .entry)) r at depth n e) ⌝ }
     ensures { λ x. ⌜ (x ≡ 0 → depthCheck e depth ≡ 0) ⌝ }
 {
     let place = e.place;

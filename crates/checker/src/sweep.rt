@@ -121,7 +121,8 @@ fn moved(
     callee: usize,
 ) -> Progress
     requires { ⌜ (callee < 32) × (depth ≤ 255) × (afterOf e depth ≤ 255) × (p .at + n ≤ 4096) × (p .count ≤ 4096) ⌝ }
-    ensures { λ x. ⌜ ((image : List ℕ) (r : Routine) → callee ≡ called image (r .index) (p .at + n) (e .flow) → x ≡ movedBy image (now (needs .entry)) r p depth n e) ⌝ }
+    ensures { λ x. ⌜ ((image : List ℕ) (r : Routine) → callee ≡ called image (r .index) (p .at + n) (e .flow) →
+        x ≡ movedBy image (now (needs .entry)) r p depth n e) ⌝ }
 {
     let flow = e.flow;
     let after = after(e, depth);
@@ -149,7 +150,8 @@ fn instruction_at(
     n: usize,
 ) -> Progress
     requires { ⌜ (r .index < 32) × (r .start ≤ 4096) × (r .end ≤ 4096) × (p .at + n ≤ 4096) × (p .count ≤ 4096) × (depth ≤ 65535) ⌝ }
-    ensures { λ x. ⌜ ((image : List ℕ) → base ≡ baseOf image → Begins image (now (begins .entry)) (r .index) → decodedAt image limits (now (needs .entry)) r (now (marks .entry)) p depth (Found i n) ≡ (x, now (marks .exit))) ⌝ }
+    ensures { λ x. ⌜ ((image : List ℕ) → base ≡ baseOf image → Begins image (now (begins .entry)) (r .index) →
+        decodedAt image limits (now (needs .entry)) r (now (marks .entry)) p depth (Found i n) ≡ (x, now (marks .exit))) ⌝ }
 {
     let e = effect_of(i);
     let flow = e.flow;
@@ -232,7 +234,8 @@ fn sweep_routine(
     marks: &mut [u16],
     s: Sweep,
 ) -> Progress
-    requires { ⌜ Setting (now image) limits layout (now plain) (now after_72) (now after_90) (now begins) × Between (now image) layout (now marks) s × (s .index < layout .count) ⌝ }
+    requires { ⌜ Setting (now image) limits layout (now plain) (now after_72) (now after_90) (now begins)
+        × Between (now image) layout (now marks) s × (s .index < layout .count) ⌝ }
     ensures { λ x. ⌜ routineSwept (now (image .entry)) limits (now (marks .entry)) s ≡ (x, now (marks .exit)) ⌝ }
     ensures { λ x. ⌜ Ended (endOf (now (image .entry)) (s .index)) (s .index) x ⌝ }
 {

@@ -92,7 +92,8 @@ pub fn start(
     y: u16,
     cc: u8,
 ) -> Started
-    ensures { λ r. ⌜ started (now (image .entry)) limits (now (marks .entry)) (now (memory .entry)) a x y cc ≡ record { started = r; marks = now (marks .exit); memory = now (memory .exit) } ⌝ }
+    ensures { λ r. ⌜ started (now (image .entry)) limits (now (marks .entry)) (now (memory .entry)) a x y cc ≡
+        record { started = r; marks = now (marks .exit); memory = now (memory .exit) } ⌝ }
 {
     if memory.len() != 32768 {
         return refused(Verdict::Refused(17, 0));
