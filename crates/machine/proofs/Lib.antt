@@ -7,3 +7,4 @@ pub mod RunLaws
 pub mod OnlyStep
 pub mod RunEnds
 pub mod Numbers
+pub mod KeptBits
