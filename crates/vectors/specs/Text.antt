@@ -5,7 +5,7 @@ use Rattle.numbers.specs.Ascii.{ascii}
 use Rattle.disassembly.specs.Notation.{byteDigits, wordDigits}
 use Rattle.machine.specs.declared.Registers.{Registers}
 
--- PC by its low 24 bits, which are all that it has
+-- PC by the 24 bits that document 01 gives it
 abbrev pub registersText : Registers → List ℕ
 registersText r =
     ascii "A " ++ byteDigits (r .a) ++

@@ -76,7 +76,7 @@ fn put_word_digits(text: &mut [u8], at: usize, w: u16)
     put_byte_digits(text, at + 2, low(w));
 }
 
-// The registers by name; PC by its low 24 bits, which are all that it has.
+// The registers by name; PC by the 24 bits that document 01 gives it.
 pub fn registers_text(r: Registers) -> [u8; 42]
     ensures { λ t. ⌜ t ≡ registersText r ⌝ }
 {
