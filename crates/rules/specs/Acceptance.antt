@@ -6,8 +6,9 @@ use mathlib.Core.List.{List}
 use lib.ListN.{length, getD}
 use Rattle.image.specs.declared.Limits.{Limits}
 use Rattle.image.specs.Image.{countOf, sizeOf}
-use Rattle.checker.specs.Depth.{reportedNeed}
-use Rattle.acceptance.specs.Rules.{Start, Rules, StartCount}
+use Rattle.rules.specs.Depth.{reportedNeed}
+use Rattle.rules.specs.Code.{Start}
+use Rattle.rules.specs.Rules.{Rules, StartCount}
 
 -- the rules hold, the marks are enough, and need and count are the ones to report
 pub record Acceptable (image : List ℕ) (limits : Limits) (marks : List ℕ) (need count : ℕ) : Type 0 where
