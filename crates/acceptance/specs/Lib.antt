@@ -1,2 +1,2 @@
-pub mod Rules
-pub mod Acceptance
+pub mod Cells
+pub mod Passed

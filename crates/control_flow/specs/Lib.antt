@@ -1,0 +1,4 @@
+pub mod Graph
+pub mod Routine
+pub mod Outcome
+pub mod Exploring
