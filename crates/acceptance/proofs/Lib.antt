@@ -1,9 +1,6 @@
-pub mod Starts
 pub mod Checks
 pub mod Callees
 pub mod Flows
-pub mod Counting
-pub mod Mapping
 pub mod Passing
 pub mod Swept
 pub mod Step
@@ -11,7 +8,6 @@ pub mod Completing
 pub mod OneRoutine
 pub mod AllRoutines
 pub mod WholeCode
-pub mod Unique
 pub mod RefusalNumbers
 pub mod Outcomes
 pub mod Accepting

@@ -1,33 +1,34 @@
 -- The starts of a routine lie inside it, one after the other: none inside an instruction.
 use Prim.Native.Nat.{ℕ, _+_, _-_, _<_, _≤_}
-use mathlib.Core.Path.{_≡_, refl, sym, ap, _∙_}
+use mathlib.Core.Path.{_≡_, sym, ap, _∙_}
 use mathlib.Core.Logic.{by-cases}
 use mathlib.Core.List.{List}
 use native.Mathlib.Decide.{ℕ-discrete, decLt}
 use native.Mathlib.Omega.{arith}
-use lib.ListN.{take, drop, take-append-drop}
+use lib.ListN.{take, drop, length-take, take-append-drop}
 use Rattle.numbers.specs.Lists.{Bytes}
 use Rattle.numbers.proofs.Bytes.{bytes-taken, bytes-dropped}
 use Rattle.stm8.specs.Decoding.{decoded}
 use Rattle.stm8.specs.declared.Instruction.{Instruction}
 use Rattle.stm8.specs.declared.Decoded.{Decoded}
 use Rattle.stm8.specs.declared.Decoded.the-variants.{Found}
-use Rattle.stm8.proofs.Longer.{longer}
+use Rattle.stm8.proofs.Longer.{found-within, longer}
 use Rattle.image.specs.Image.{codeOf, startOf, endOf}
-use Rattle.checker.specs.Sweep.{bytesAt, routineOf}
-use Rattle.checker.proofs.Starts.{found-in-routine}
-use Rattle.acceptance.specs.Rules.{instructionAt, Start, begins, follows}
+use Rattle.rules.specs.Code.{instructionAt, Start, begins, follows}
 
 -- bytes are one instruction, of one length
 pub same-found : {x : Decoded} {i i′ : Instruction} {n n′ : ℕ} → x ≡ Found i n → x ≡ Found i′ n′ → (i ≡ i′) × (n ≡ n′)
 same-found p q = (cc, cc)
 
 module _ (image : List ℕ) (r : ℕ) where
+  -- the bytes at an offset end with the routine, so an instruction that is found there does too
   pub found-inside : (o : ℕ) {n : ℕ} {i : Instruction} → instructionAt image r o ≡ Found i n → (0 < n) × (o + n ≤ endOf image r)
-  unfolding instructionAt bytesAt
+  unfolding instructionAt
   found-inside o {n} {i} f =
-      let inside = found-in-routine image (routineOf image r) o _ i n refl f in
-      (inside .0, omega (arith, inside))
+      let size = endOf image r - o in
+      let code = drop o (codeOf image) in
+      let within = found-within (take size code) i n f in
+      (within .0, omega (arith, within, length-take size code))
 
   -- the bytes after the routine do not change what stands at an offset
   pub found-in-code : Bytes (codeOf image) → (o : ℕ) {n : ℕ} {i : Instruction} →

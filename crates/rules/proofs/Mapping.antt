@@ -6,8 +6,9 @@ use native.Mathlib.Omega.{arith}
 use Rattle.stm8.specs.declared.Instruction.{Instruction}
 use Rattle.stm8.specs.declared.Effect.{Effect}
 use Rattle.image.specs.declared.Limits.{Limits}
-use Rattle.acceptance.specs.Rules.{Start, begins, JumpRules, InstructionRules, StartAt, RoutineRules}
-use Rattle.acceptance.specs.Rules.{InstructionUse, before, behind, calling, Use, Greatest}
+use Rattle.rules.specs.Code.{Start, begins}
+use Rattle.rules.specs.Rules.{JumpRules, InstructionRules, StartAt, RoutineRulesBy}
+use Rattle.rules.specs.Rules.{InstructionUse, before, behind, calling, Use, Greatest}
 
 module _ {image : List ℕ} {r : ℕ} {At At′ : ℕ → ℕ → Type 0} (f : (to d : ℕ) → At to d → At′ to d) where
   jump-map : {address depth : ℕ} → JumpRules image r At address depth → JumpRules image r At′ address depth
@@ -39,15 +40,20 @@ module _ {image : List ℕ} {depth depth′ : ℕ → ℕ} {r : ℕ} (deep : (o 
   at-map : (to d : ℕ) → StartAt image depth r to d → StartAt image depth′ r to d
   at-map to d a = record { start = a .start; deep = sym (deep to (a .start)) ∙ a .deep }
 
-  pub routine-map : {limits : Limits} → RoutineRules image limits depth r → RoutineRules image limits depth′ r
-  routine-map h =
+  -- by any other reach too that all its starts have
+  pub routine-by : {Reach Reach′ : ℕ → ℕ → Type 0} {limits : Limits} → ((o : ℕ) → Start image r o → Reach′ r o) →
+      RoutineRulesBy Reach image limits depth r → RoutineRulesBy Reach′ image limits depth′ r
+  routine-by reach h =
       record {
         entry = sym (deep _ begins) ∙ h .entry;
         starts = λ {o} s.
             let g = h .starts s in
             let rules = rw (deep o s) at (rules-map at-map (g .rules)) in
-            record { instruction = g .instruction; size = g .size; found = g .found; reached = g .reached; rules = rules };
+            record { instruction = g .instruction; size = g .size; found = g .found; reached = reach o s; rules = rules };
       }
+
+  pub routine-map : {Reach : ℕ → ℕ → Type 0} {limits : Limits} → RoutineRulesBy Reach image limits depth r → RoutineRulesBy Reach image limits depth′ r
+  routine-map h = routine-by (λ o s. h .starts s .reached) h
 
   use-of : {need need′ : ℕ → ℕ} {v : ℕ} → ((j : ℕ) → j < r → need j ≡ need′ j) → Use image depth need r v → Use image depth′ need′ r v
   use-of same u =
