@@ -4,3 +4,4 @@ pub mod Mapping
 pub mod Callees
 pub mod Depths
 pub mod Unique
+pub mod Kept

@@ -56,7 +56,7 @@ module _ {image : List ℕ} {limits : Limits} {depth depth′ : ℕ → ℕ} {r 
 pub greatest-one : {P : ℕ → Type 0} {a b : ℕ} → Greatest P a → Greatest P b → a ≡ b
 greatest-one g h = omega (arith, g .bounds (h .is), h .bounds (g .is))
 
-module _ (image : List ℕ) (limits : Limits) (depth depth′ need need′ : ℕ → ℕ)
+module _ {image : List ℕ} {limits : Limits} {depth depth′ need need′ : ℕ → ℕ}
     (rules : (r : ℕ) → r < countOf image → RoutineRules image limits depth r)
     (rules′ : (r : ℕ) → r < countOf image → RoutineRules image limits depth′ r)
     (most : NeedRules image depth need) (most′ : NeedRules image depth′ need′) where
