@@ -5,3 +5,6 @@ pub mod Callees
 pub mod Depths
 pub mod Unique
 pub mod Kept
+pub mod Ranges
+pub mod Phases
+pub mod Passing
