@@ -8,3 +8,5 @@ pub mod Kept
 pub mod Ranges
 pub mod Phases
 pub mod Passing
+pub mod OneNumber
+pub mod OneRefusal
