@@ -10,3 +10,5 @@ pub mod Phases
 pub mod Passing
 pub mod OneNumber
 pub mod OneRefusal
+pub mod RefusalNumbers
+pub mod OneMarks
