@@ -1,5 +1,3 @@
 pub mod Bytes
-pub mod Checks
-pub mod Starts
-pub mod Routines
-pub mod Verdicts
+pub mod Callees
+pub mod DecodePass
