@@ -1,1 +1,3 @@
-
+pub mod JumpCells
+pub mod StoreCells
+pub mod CallCells
