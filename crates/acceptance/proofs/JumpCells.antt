@@ -59,6 +59,19 @@ module _ (base start end : ℕ) where
   jump-cell next (CallRelative n) = none (λ a. elim [ ])
   jump-cell next Return = none (λ a. elim [ ])
 
+  -- a cell that names an offset of code is that of a jump to it, and the other way round
+  pub cell-target : (to : ℕ) {next cell : ℕ} {flow : Flow} → JumpCell next flow cell → cell ≡ to + 1 → to < 4096 →
+      Jumps (base + next) flow (base + to) × (start ≤ to) × (to < end)
+  cell-target to (none absent) e small = absurd (omega arith)
+  cell-target to (stays {to = t} j low high) e small = let same : to ≡ t = omega arith in rw same (j, low, high)
+  cell-target to (leaves j out) e small = absurd (omega arith)
+
+  pub jump-target : (to : ℕ) {next cell : ℕ} {flow : Flow} →
+      JumpCell next flow cell → Jumps (base + next) flow (base + to) → cell ≤ 4096 → cell ≡ to + 1
+  jump-target to (none absent) k small = absurd (absent _ k)
+  jump-target to (stays j low high) k small = omega (arith, one-target j k)
+  jump-target to (leaves j out) k small = absurd (omega arith)
+
   -- only RET has neither cell
   target-some : {address cell : ℕ} → Target address cell → 1 ≤ cell
   target-some (within e low high) = omega arith

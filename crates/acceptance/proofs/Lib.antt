@@ -1,3 +1,5 @@
 pub mod JumpCells
 pub mod StoreCells
 pub mod CallCells
+pub mod Waiting
+pub mod Graphs
