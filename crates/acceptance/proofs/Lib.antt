@@ -3,3 +3,5 @@ pub mod StoreCells
 pub mod CallCells
 pub mod Waiting
 pub mod Graphs
+pub mod Faults
+pub mod Strays
