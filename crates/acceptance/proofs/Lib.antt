@@ -5,3 +5,6 @@ pub mod Waiting
 pub mod Graphs
 pub mod Faults
 pub mod Strays
+pub mod DepthNumbers
+pub mod DepthTests
+pub mod DepthFaults
