@@ -8,3 +8,4 @@ pub mod Strays
 pub mod DepthNumbers
 pub mod DepthTests
 pub mod DepthFaults
+pub mod RoutineRules
