@@ -9,3 +9,6 @@ pub mod DepthNumbers
 pub mod DepthTests
 pub mod DepthFaults
 pub mod RoutineRules
+pub mod RoutineNeed
+pub mod RoutinePasses
+pub mod OneRoutine
