@@ -12,3 +12,5 @@ pub mod RoutineRules
 pub mod RoutineNeed
 pub mod RoutinePasses
 pub mod OneRoutine
+pub mod AllRoutines
+pub mod NeedBounds
