@@ -14,3 +14,5 @@ pub mod RoutinePasses
 pub mod OneRoutine
 pub mod AllRoutines
 pub mod NeedBounds
+pub mod WholeCode
+pub mod Outcomes
