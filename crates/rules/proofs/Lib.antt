@@ -12,3 +12,5 @@ pub mod OneNumber
 pub mod OneRefusal
 pub mod RefusalNumbers
 pub mod OneMarks
+pub mod OneOutcome
+pub mod EveryOutcome
