@@ -8,6 +8,7 @@ pub mod Kept
 pub mod Ranges
 pub mod Phases
 pub mod Passing
+pub mod AgreedDepths
 pub mod OneNumber
 pub mod OneRefusal
 pub mod RefusalNumbers
