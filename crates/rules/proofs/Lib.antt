@@ -15,3 +15,4 @@ pub mod RefusalNumbers
 pub mod OneMarks
 pub mod OneOutcome
 pub mod EveryOutcome
+pub mod Bounds
