@@ -64,7 +64,8 @@ module _ (image : List ℕ) (r : ℕ) where
   pub data CallCell (next : ℕ) (flow : Flow) : ℕ → Type 0 where
     none : ((address : ℕ) → Calls (baseOf image + next) flow address → ⊥) → CallCell next flow 0
     calls : {address k : ℕ} → Calls (baseOf image + next) flow address → Callee image r address k → CallCell next flow (k + 1)
-    nowhere : {address : ℕ} → Calls (baseOf image + next) flow address → ((k : ℕ) → Callee image r address k → ⊥) → CallCell next flow 255
+    nowhere : {address : ℕ} → Calls (baseOf image + next) flow address → ((k : ℕ) → Callee image r address k → ⊥) →
+        CallCell next flow 255
 
   calling : {next address : ℕ} {flow : Flow} → Calls (baseOf image + next) flow address → CallCell next flow (calleeCell image r address)
   unfolding calleeCell
