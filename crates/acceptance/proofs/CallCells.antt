@@ -6,13 +6,16 @@ use mathlib.Core.List.{List}
 use native.Mathlib.Decide.{ℕ-discrete, decLt}
 use native.Mathlib.Omega.{arith}
 use borrow.Author.Tests.{eq-eqb, ne-eqb, lt-ltb, le-ltb}
+use Rattle.stm8.specs.Effects.{effect}
 use Rattle.stm8.specs.declared.Flow.{Flow}
 use Rattle.stm8.specs.declared.Flow.the-variants.{Next, Branch, Jump, Call, CallRelative, Return}
+use Rattle.image.specs.declared.Limits.{Limits}
 use Rattle.image.specs.Image.{baseOf, countOf, startOf}
 use Rattle.image.specs.Rules.{ImageRules}
 use Rattle.rules.specs.Code.{Calls, absolute, near, Callee}
 use Rattle.rules.proofs.Callees.{one-routine}
-use Rattle.acceptance.specs.Cells.{beginning, callee, calleeCell, callCell}
+use Rattle.control_flow.specs.Routine as cells
+use Rattle.acceptance.specs.Cells.{beginning, callee, calleeCell, callCell, Stored}
 
 -- a call has one target, and a target one callee
 pub one-call : {next a b : ℕ} {flow : Flow} → Calls next flow a → Calls next flow b → a ≡ b
@@ -83,3 +86,7 @@ module _ (image : List ℕ) (r : ℕ) where
   call-cell next (Call a) = calling absolute
   call-cell next (CallRelative n) = calling near
   call-cell next Return = none (λ a. elim [ ])
+
+pub call-stored : {image : List ℕ} {limits : Limits} {r o : ℕ} {x : cells.Routine} (c : Stored image limits r x o) →
+    CallCell image r (o + c .size) (effect (c .instruction) .flow) (x .calls o)
+call-stored {image} {r = r} {o} c = rw (c .call) (call-cell image r (o + c .size) (effect (c .instruction) .flow))

@@ -63,7 +63,7 @@ module _ {image : List ℕ} {limits : Limits} {r : ℕ} {x : cells.Routine} {bia
   test {o} a =
       let c = h .filled .cells o (a .start) in
       let same = same-found (a .found) (c .found) in
-      rw (same .0, same .1) (tested (h .layout) (h .inside) c bias (held o) _ _ (path-held (a .path) .1))
+      rw (same .0, same .1) (tested (h .layout) (h .inside) c bias held _ _ (path-held (a .path) .1))
 
   pub depth-allows : {o n pushes pops : ℕ} {i : Instruction} → Arrival image r o n i pushes pops → cells.depthCheck x bias held o ≡ 0 →
       Allowed image limits r (baseOf image + (o + n)) (effect i) pushes pops

@@ -23,7 +23,6 @@ use Rattle.control_flow.specs.Routine as cells
 use Rattle.control_flow.proofs.Numbers as numbers
 use Rattle.acceptance.specs.Cells.{Filled}
 use Rattle.acceptance.proofs.JumpCells as jump
-use Rattle.acceptance.proofs.Graphs.{jump-of}
 use Rattle.acceptance.proofs.Faults.{Finds}
 
 -- the number of a jump that stays in its routine
@@ -63,7 +62,7 @@ module _ {image : List ℕ} {limits : Limits} {r : ℕ} {x : cells.Routine} (fil
       (to : ℕ) × (address ≡ baseOf image + to) × Start image r to
   jump-lands {o} s f pass j =
       let same = same-found f (filled .cells o s .found) in
-      lands (jump-of filled s) pass (rw (same .0, same .1) at j)
+      lands (jump.jump-stored (filled .cells o s)) pass (rw (same .0, same .1) at j)
 
   no-stray : {o n : ℕ} → JumpFault image r o n → cells.jumpCheck x o ≡ 0 → ⊥
   no-stray (leaves s f j out) pass =
@@ -78,7 +77,10 @@ module _ {image : List ℕ} {limits : Limits} {r : ℕ} {x : cells.Routine} (fil
   pub strays : Finds x (cells.jumpCheck x) (JumpFault image r)
   strays =
       record {
-        finds = λ o s some. let t = filled .start o s in stray t (filled .cells o t .found) (jump-of filled t) some;
+        finds = λ o s some.
+            let t = filled .start o s in
+            let c = filled .cells o t in
+            stray t (c .found) (jump.jump-stored c) some;
         start = λ o n a. filled .starts o (fault-at limits jumps o n a .start);
         fails = λ o n a. no-stray a;
       }
