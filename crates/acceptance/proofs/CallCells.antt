@@ -10,22 +10,15 @@ use Rattle.stm8.specs.Effects.{effect}
 use Rattle.stm8.specs.declared.Flow.{Flow}
 use Rattle.stm8.specs.declared.Flow.the-variants.{Next, Branch, Jump, Call, CallRelative, Return}
 use Rattle.image.specs.declared.Limits.{Limits}
-use Rattle.image.specs.Image.{baseOf, countOf, startOf}
-use Rattle.image.specs.Rules.{ImageRules}
+use Rattle.image.specs.Image.{baseOf, startOf}
 use Rattle.rules.specs.Code.{Calls, absolute, near, Callee}
-use Rattle.rules.proofs.Callees.{one-routine}
 use Rattle.control_flow.specs.Routine as cells
 use Rattle.acceptance.specs.Cells.{beginning, callee, calleeCell, callCell, Stored}
 
--- a call has one target, and a target one callee
+-- a call has one target
 pub one-call : {next a b : ℕ} {flow : Flow} → Calls next flow a → Calls next flow b → a ≡ b
 one-call absolute absolute = refl
 one-call near near = refl
-
-module _ {image : List ℕ} (layout : ImageRules image) {r : ℕ} (inside : r ≤ countOf image) where
-  pub one-callee : {address j k : ℕ} → Callee image r address j → Callee image r address k → j ≡ k
-  one-callee c d =
-      one-routine image layout _ _ (omega (arith, c .earlier)) (omega (arith, d .earlier)) (omega (arith, c .target, d .target))
 
 -- the search for a routine that begins at an offset
 module _ (image : List ℕ) (offset : ℕ) where

@@ -11,6 +11,7 @@ use Rattle.rules.specs.Depth.{after}
 use Rattle.rules.specs.Code.{Start, Calls, Callee}
 use Rattle.rules.specs.Rules.{InstructionRules, StartAt, RoutineRules, InstructionUse, before, behind, calling, Use, Greatest}
 use Rattle.rules.proofs.Starts.{same-found}
+use Rattle.rules.proofs.Callees.{one-callee}
 use Rattle.rules.proofs.Unique.{rules-found}
 use Rattle.control_flow.specs.Routine as cells
 use Rattle.acceptance.specs.Cells.{Stored, Filled}
@@ -44,7 +45,7 @@ module _ {image : List ℕ} {limits : Limits} {r o : ℕ} {x : cells.Routine} (l
   call-cell : {cell address : ℕ} → CallCell cell → (k : ℕ) → Calls (baseOf image + (o + c .size)) (effect (c .instruction) .flow) address →
       Callee image r address k → cell ≡ k + 1
   call-cell (calls.none absent) k d to = absurd (absent _ d)
-  call-cell (calls.calls d′ to′) k d to = omega (arith, calls.one-callee layout (omega arith) to′ (rw (calls.one-call d d′) at to))
+  call-cell (calls.calls d′ to′) k d to = omega (arith, one-callee image layout (omega arith) to′ (rw (calls.one-call d d′) at to))
   call-cell (calls.nowhere d′ none) k d to = absurd (none k (rw (calls.one-call d d′) at to))
 
   used-uses : {v : ℕ} → Used v → cells.Uses x needs bias held o v
