@@ -1,1 +1,18 @@
-
+pub mod JumpCells
+pub mod StoreCells
+pub mod CallCells
+pub mod Graphs
+pub mod Faults
+pub mod CodeFaults
+pub mod Strays
+pub mod DepthNumbers
+pub mod DepthTests
+pub mod DepthFaults
+pub mod RoutineRules
+pub mod RoutineNeed
+pub mod RoutinePasses
+pub mod OneRoutine
+pub mod AllRoutines
+pub mod NeedBounds
+pub mod WholeCode
+pub mod Outcomes

@@ -1,12 +1,18 @@
--- Every image that met the rules before W-202 meets them now, with the same depths and needs and no others.
-use Prim.Native.Nat.{ℕ, zero, suc, _<_}
+-- Every image that met the rules before W-202 meets them now, with the same depths and needs and no others, and is accepted with its need, count and
+-- marks.
+use Prim.Native.Nat.{ℕ, zero, suc, _<_, _≤_}
 use mathlib.Core.Path.{_≡_, refl}
 use mathlib.Core.List.{List}
 use native.Mathlib.Omega.{arith}
+use lib.ListN.{length}
 use Rattle.image.specs.declared.Limits.{Limits}
-use Rattle.image.specs.Image.{countOf}
+use Rattle.image.specs.Image.{countOf, sizeOf}
+use Rattle.rules.specs.Depth.{reportedNeed}
 use Rattle.rules.specs.Code.{Start, falling, jumping, Reached, entered, followed}
-use Rattle.rules.specs.Rules.{RoutineRulesBy, RoutineRules, Rules}
+use Rattle.rules.specs.Rules.{RoutineRulesBy, RoutineRules, Rules, StartCount}
+use Rattle.rules.specs.Acceptance.{AcceptedMarks, PastCode}
+use Rattle.rules.specs.Outcome.{Outcome, accepted}
+use Rattle.rules.specs.declared.Verdict.the-variants.{Accepted}
 use Rattle.rules.specs.Before.{ReachedFromBelow, fallen, jumped, RulesBefore}
 use Rattle.rules.specs.Before as Before
 use Rattle.rules.proofs.Starts.{found-inside}
@@ -46,3 +52,10 @@ same-as-before h h′ =
       λ r o inside s. one-depth (k .routines r inside) (h′ .routines r inside) o s,
       one-need (k .routines) (h′ .routines) (k .needs) (h′ .needs),
     )
+
+pub acceptance-kept : {image : List ℕ} {limits : Limits} {depth need : ℕ → ℕ} {count : ℕ} {before after : List ℕ} →
+    RulesBefore image limits depth need → sizeOf image ≤ length before → StartCount image count →
+    AcceptedMarks image depth after → PastCode image before after →
+    Outcome image limits before (Accepted (reportedNeed image need) count) after
+acceptance-kept {depth = depth} {need} h enough counted marks past =
+    accepted (record { depth = depth; needs = need; rules = rules-kept h; enough = enough; reported = refl; counted = counted }) marks past
