@@ -1,3 +1,4 @@
 pub mod Bytes
 pub mod Callees
 pub mod DecodePass
+pub mod Routines

@@ -2,6 +2,116 @@
 mod cells;
 mod decoding;
 mod depth;
+mod depths;
+mod flow;
 mod marks;
+mod sweep;
 
 pub use rules::Verdict;
+ghost use mathlib.Core.Path.{_≡_};
+ghost use Prim.Native.Nat.{_≤_};
+ghost use lib.ListN.{length};
+ghost use Rattle.image.specs.Image.{countOf, sizeOf};
+ghost use Rattle.image.specs.Validation.{validated};
+ghost use Rattle.image.specs.declared.Validated.the-variants.{Valid};
+ghost use Rattle.rules.specs.Outcome.{Outcome};
+ghost use Rattle.checker.specs.Internal.{Begins, Small, VerdictOf, codeMarks, CodeOutcome};
+use crate::marks::clear;
+use crate::sweep::Sweep;
+use crate::sweep::sweep_routines;
+use image::Layout;
+use image::Limits;
+use image::Validated;
+use image::routine_length;
+use image::validate;
+
+// What the sweep's last state says; 16 comes last.
+fn verdict_of(limits: Limits, layout: Layout, s: Sweep) -> Verdict
+    requires { ⌜ (1 ≤ layout .count) × (layout .count ≤ 32) × Small s ⌝ }
+    ensures { λ r. ⌜ VerdictOf limits (layout .count) s r ⌝ }
+{
+    if s.refusal != 0 {
+        return Verdict::Refused(s.refusal, s.at as u16);
+    }
+    let stack = limits.stack;
+    let main = layout.count - 1;
+    let need = s.needs[main] + 2;
+    if stack.high as usize + 1 < stack.low as usize + need as usize {
+        return Verdict::Refused(16, 0);
+    }
+    Verdict::Accepted(need, s.count as u16)
+}
+
+// Where the verdict refuses, all code marks are 0.
+fn clear_refused(v: Verdict, marks: &mut [u16])
+    ensures { λ _. ⌜ now (marks .exit) ≡ codeMarks v (now (marks .entry)) ⌝ }
+{
+    match v {
+        Verdict::Accepted(_, _) => (),
+        Verdict::Refused(_, _) => clear(marks),
+    }
+}
+
+// Where each routine begins.
+fn routine_begins(image: &[u8], count: usize) -> [u16; 32]
+    requires { ⌜ (count ≡ countOf (now image)) × (count ≤ 32) × (sizeOf (now image) ≤ 4096) ⌝ }
+    ensures { λ r. ⌜ Begins (now (image .entry)) r count ⌝ }
+{
+    let mut begins = [0u16; 32];
+    let mut k = 0;
+    let mut at = 0;
+    while k < count {
+        begins[k] = at as u16;
+        at += routine_length(image, k) as usize;
+        k += 1;
+    }
+    begins
+}
+
+// The sweep of a valid image's code, over as many marks as it has bytes.
+fn check_code(image: &[u8], limits: Limits, layout: Layout, marks: &mut [u16]) -> Verdict
+    requires { ⌜ (validated (now image) limits ≡ Valid layout) × (length (now marks) ≡ layout .size) ⌝ }
+    ensures { λ r. ⌜ CodeOutcome (now (image .entry)) limits r (now (marks .exit)) ⌝ }
+{
+    clear(marks);
+    let plain = stm8::plain_lengths();
+    let after_72 = stm8::after_72_lengths();
+    let after_90 = stm8::after_90_lengths();
+    let begins = routine_begins(image, layout.count);
+    let s = sweep_routines(
+        image,
+        limits,
+        layout,
+        &plain,
+        &after_72,
+        &after_90,
+        &begins,
+        marks,
+    );
+    let v = verdict_of(limits, layout, s);
+    clear_refused(v, marks);
+    v
+}
+
+// A valid image: 5 where there are too few marks, else its code. Cells past the code never change.
+fn check_valid(image: &[u8], limits: Limits, layout: Layout, marks: &mut [u16]) -> Verdict
+    requires { ⌜ validated (now image) limits ≡ Valid layout ⌝ }
+    ensures { λ r. ⌜ Outcome (now (image .entry)) limits (now (marks .entry)) r (now (marks .exit)) ⌝ }
+{
+    let size = layout.size;
+    if marks.len() < size {
+        return Verdict::Refused(5, 0);
+    }
+    check_code(image, limits, layout, &mut marks[..size])
+}
+
+// Checks an image under limits.
+pub fn check(image: &[u8], limits: Limits, marks: &mut [u16]) -> Verdict
+    ensures { λ r. ⌜ Outcome (now (image .entry)) limits (now (marks .entry)) r (now (marks .exit)) ⌝ }
+{
+    let v = validate(image, limits);
+    match v {
+        Validated::Refused(number) => Verdict::Refused(number, 0),
+        Validated::Valid(layout) => check_valid(image, limits, layout, marks),
+    }
+}

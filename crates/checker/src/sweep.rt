@@ -1,0 +1,220 @@
+// The sweep over the routines: 6 to 15.
+ghost use mathlib.Core.Path.{_≡_};
+ghost use Prim.Native.Nat.{_+_, _≤_, _<_};
+ghost use lib.ListN.{length, set, replicate};
+ghost use Rattle.stm8.specs.Decoding.{Tables};
+ghost use Rattle.image.specs.Image.{sizeOf, startOf};
+ghost use Rattle.image.specs.Validation.{validated};
+ghost use Rattle.image.specs.declared.Validated.the-variants.{Valid};
+ghost use Rattle.acceptance.specs.Passed.{RoutineChecked, RoutinesPassed};
+ghost use Rattle.checker.specs.Internal.{Begins, RoutineOf, Clean, Swept, Small};
+use crate::decoding::Routine;
+use crate::decoding::decode_routine;
+use crate::depths::Checked;
+use crate::flow::check_flow;
+use image::Layout;
+use image::Limits;
+use image::routine_length;
+
+// The state between routines: the first refusal, the offset, the next routine's place in the table, the number of starts, and the needs
+// of the routines that are done.
+pub struct Sweep {
+    pub refusal: u8,
+    pub at: usize,
+    pub index: usize,
+    pub count: usize,
+    pub needs: [u16; 32],
+}
+
+// The next routine.
+fn routine_at(image: &[u8], limits: Limits, layout: Layout, index: usize, start: usize) -> Routine
+    requires { ⌜ (validated (now image) limits ≡ Valid layout) × (index < layout .count) × (start ≡ startOf (now image) index) ⌝ }
+    ensures { λ r. ⌜ RoutineOf (now (image .entry)) r ⌝ }
+    ensures { λ r. ⌜ (r .index ≡ index) × (r .start ≡ start) × (r .limits ≡ limits) ⌝ }
+{
+    let end = start + routine_length(image, index) as usize;
+    Routine {
+        index,
+        start,
+        end,
+        base: layout.base,
+        code: layout.code,
+        limits,
+    }
+}
+
+// One routine: 8, 9 and 15 over all its starts, then by its cells.
+fn check_routine(
+    image: &[u8],
+    r: Routine,
+    plain: &[u8; 256],
+    after_72: &[u8; 256],
+    after_90: &[u8; 256],
+    begins: &[u16; 32],
+    needs: &[u16; 32],
+    counted: usize,
+    starts: &mut [u8; 4096],
+    falls: &mut [u16; 4096],
+    jumps: &mut [u16; 4096],
+    pops: &mut [u8; 4096],
+    pushes: &mut [u8; 4096],
+    stores: &mut [u16; 4096],
+    calls: &mut [u8; 4096],
+    depths: &mut [u32; 4096],
+    stack: &mut [u16; 4096],
+    marks: &mut [u16],
+) -> Checked
+    requires { ⌜ RoutineOf (now image) r × Tables (now plain) (now after_72) (now after_90) × Begins (now image) (now begins) (r .index)
+        × Clean (r .start) (now starts) (now falls) (now jumps) (now pops) (now pushes) (now stores) (now calls)
+        (now depths) (now stack)
+        × RoutinesPassed (now image) (r .limits) (r .index) (now needs) (now marks) counted ⌝ }
+    ensures { λ x. ⌜ RoutineChecked (now (image .entry)) (r .limits) (now (needs .entry)) (r .index)
+        (now (marks .entry)) (x .refusal) (x .at) (now (marks .exit)) (x .need) (x .count) ⌝ }
+    ensures { λ x. ⌜ (x .refusal ≡ 0 → Clean (r .end) (now (starts .exit)) (now (falls .exit)) (now (jumps .exit))
+        (now (pops .exit)) (now (pushes .exit)) (now (stores .exit)) (now (calls .exit))
+        (now (depths .exit)) (now (stack .exit))) ⌝ }
+{
+    let d = decode_routine(
+        image,
+        r,
+        plain,
+        after_72,
+        after_90,
+        begins,
+        starts,
+        falls,
+        jumps,
+        pops,
+        pushes,
+        stores,
+        calls,
+    );
+    if d.refusal != 0 {
+        return Checked {
+            refusal: d.refusal,
+            at: d.at,
+            need: 0,
+            count: 0,
+        };
+    }
+    check_flow(
+        r.start,
+        r.end,
+        &*starts,
+        &*falls,
+        &*jumps,
+        &*pops,
+        &*pushes,
+        &*stores,
+        &*calls,
+        needs,
+        counted,
+        depths,
+        stack,
+        marks,
+    )
+}
+
+// The state before the first routine.
+fn begun() -> Sweep
+    ensures { λ r. ⌜ (r .refusal ≡ 0) × (r .at ≡ 0) × (r .index ≡ 0) × (r .count ≡ 0) × (r .needs ≡ replicate 32 0) ⌝ }
+{
+    let needs = [0u16; 32];
+    Sweep {
+        refusal: 0,
+        at: 0,
+        index: 0,
+        count: 0,
+        needs,
+    }
+}
+
+// The state after a routine, which ends at `end`.
+fn closed(s: Sweep, end: usize, x: Checked) -> Sweep
+    requires { ⌜ (s .index < 32) × (x .need ≤ 65535) ⌝ }
+    ensures { λ r. ⌜ (r .refusal ≡ 0) × (r .at ≡ end) × (r .index ≡ s .index + 1) × (r .count ≡ x .count)
+        × (r .needs ≡ set (s .needs) (s .index) (x .need)) ⌝ }
+{
+    let index = s.index;
+    let mut needs = s.needs;
+    needs[index] = x.need as u16;
+    Sweep {
+        refusal: 0,
+        at: end,
+        index: index + 1,
+        count: x.count,
+        needs,
+    }
+}
+
+// The state where a routine is refused.
+fn stopped(s: Sweep, x: Checked) -> Sweep
+    ensures { λ r. ⌜ (r .refusal ≡ x .refusal) × (r .at ≡ x .at) × (r .index ≡ s .index) × (r .count ≡ s .count) × (r .needs ≡ s .needs) ⌝ }
+{
+    let needs = s.needs;
+    Sweep {
+        refusal: x.refusal,
+        at: x.at,
+        index: s.index,
+        count: s.count,
+        needs,
+    }
+}
+
+// Every routine in table order, so that a callee's need is there before its callers', to the first refusal. The arrays by code offset are cleared
+// once for the whole code.
+pub(crate) fn sweep_routines(
+    image: &[u8],
+    limits: Limits,
+    layout: Layout,
+    plain: &[u8; 256],
+    after_72: &[u8; 256],
+    after_90: &[u8; 256],
+    begins: &[u16; 32],
+    marks: &mut [u16],
+) -> Sweep
+    requires { ⌜ (validated (now image) limits ≡ Valid layout) × Tables (now plain) (now after_72) (now after_90)
+        × Begins (now image) (now begins) (layout .count) × (now marks ≡ replicate (sizeOf (now image)) 0) ⌝ }
+    ensures { λ r. ⌜ Swept (now (image .entry)) limits r (now (marks .exit)) ⌝ }
+    ensures { λ r. ⌜ Small r ⌝ }
+{
+    let mut starts = [0u8; 4096];
+    let mut falls = [0u16; 4096];
+    let mut jumps = [0u16; 4096];
+    let mut pops = [0u8; 4096];
+    let mut pushes = [0u8; 4096];
+    let mut stores = [0u16; 4096];
+    let mut calls = [0u8; 4096];
+    let mut depths = [0u32; 4096];
+    let mut stack = [0u16; 4096];
+    let mut s = begun();
+    while s.index < layout.count {
+        let r = routine_at(image, limits, layout, s.index, s.at);
+        let needs = s.needs;
+        let x = check_routine(
+            image,
+            r,
+            plain,
+            after_72,
+            after_90,
+            begins,
+            &needs,
+            s.count,
+            &mut starts,
+            &mut falls,
+            &mut jumps,
+            &mut pops,
+            &mut pushes,
+            &mut stores,
+            &mut calls,
+            &mut depths,
+            &mut stack,
+            marks,
+        );
+        if x.refusal != 0 {
+            return stopped(s, x);
+        }
+        s = closed(s, r.end, x);
+    }
+    s
+}
