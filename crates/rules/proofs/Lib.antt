@@ -1,1 +1,16 @@
-
+pub mod Starts
+pub mod Counting
+pub mod Mapping
+pub mod Callees
+pub mod Depths
+pub mod Unique
+pub mod Kept
+pub mod Ranges
+pub mod Phases
+pub mod Passing
+pub mod OneNumber
+pub mod OneRefusal
+pub mod RefusalNumbers
+pub mod OneMarks
+pub mod OneOutcome
+pub mod EveryOutcome
