@@ -1,3 +1,4 @@
 pub mod Try
 pub mod Listing
 pub mod StartList
+pub mod Decoding
