@@ -1,0 +1,9 @@
+pub mod Knowing
+pub mod Following
+pub mod Invariant
+pub mod Growing
+pub mod Visits
+pub mod Paths
+pub mod Ends
+pub mod Numbers
+pub mod Outcomes
