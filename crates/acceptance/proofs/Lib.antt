@@ -2,3 +2,5 @@ pub mod Try
 pub mod Listing
 pub mod StartList
 pub mod Decoding
+pub mod Exploring
+pub mod Measuring

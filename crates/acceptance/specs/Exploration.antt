@@ -43,12 +43,12 @@ unfoldable pub exploreFrom : ℕ → Graph → Exploration → Exploration
 exploreFrom zero g s = s
 exploreFrom (suc fuel) g s = cond (eqb (s .height) 0) s (exploreFrom fuel g (visit g (top s) (popTop s)))
 
--- the most that an instruction at these starts moves the depth, and more than 4,096 of them together
+-- no instruction at these starts moves the depth by more; and more than 4,097 of them do together
 unfoldable pub mostMoved : Graph → List ℕ → ℕ
 mostMoved g starts = total (map (λ o. g .pops o + g .pushes o) starts)
 
 unfoldable pub biasFor : Graph → List ℕ → ℕ
-biasFor g starts = mostMoved g starts * 4096 + 1
+biasFor g starts = mostMoved g starts * 4097 + 1
 
 -- from the entry, at depth 0
 unfoldable pub explored : Graph → ℕ → Exploration
