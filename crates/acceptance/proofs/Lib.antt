@@ -4,3 +4,10 @@ pub mod StartList
 pub mod Decoding
 pub mod Exploring
 pub mod Measuring
+pub mod JumpCells
+pub mod StoreCells
+pub mod CallCells
+pub mod Waiting
+pub mod Graphs
+pub mod Faults
+pub mod Strays
