@@ -4,6 +4,7 @@ pub mod StartList
 pub mod Decoding
 pub mod Exploring
 pub mod Measuring
+pub mod FlowFunction
 pub mod JumpCells
 pub mod StoreCells
 pub mod CallCells

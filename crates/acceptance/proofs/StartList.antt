@@ -25,7 +25,7 @@ found-of Truncated some = absurd (some refl)
 bytes-found : {d : Decoded} {i : Instruction} {n : ℕ} → d ≡ Found i n → bytesOf d ≡ n
 bytes-found e = ap bytesOf e
 
-in-none : {A : Type 0} {o : ℕ} {l : List ℕ} → l ≡ [] → In o l → A
+pub in-none : {A : Type 0} {o : ℕ} {l : List ℕ} → l ≡ [] → In o l → A
 in-none e head = let z : _≡_ {A = ℕ} 0 1 = cc in absurd (omega arith)
 in-none e (tail i) = let z : _≡_ {A = ℕ} 0 1 = cc in absurd (omega arith)
 

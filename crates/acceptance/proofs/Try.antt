@@ -66,5 +66,5 @@ unfolding Checks.first Checks.both Checks.under Checks.unless Checks.differ Fold
     Validation.lengthsCheck Validation.layoutCheck Validation.refusal Validation.validated Depth.popped Depth.pushed Code.instructionAt
     Routine.jumpNumber Routine.depthNumber Routine.countFrom Cells.targetCell Cells.storeCell Cells.beginning Cells.callee Cells.calleeCell
     Starts.startsFrom Starts.startsOf Starts.listed Exploration.exploreFrom Exploration.mostMoved Exploration.biasFor Exploration.explored
-    Check.firstAt Check.biasOf Check.exploredIn Check.routineRefusing Check.routinesFrom Check.swept Check.codeChecked Check.checked
+    Check.firstAt Check.biasOf Check.exploredIn Check.flowRefusing Check.routineRefusing Check.routinesFrom Check.swept Check.codeChecked Check.checked
 all-hold = refl

@@ -46,17 +46,21 @@ exploredIn image limits r = explored (cellsOf image limits r .graph) (biasOf ima
 abbrev pub reachNumber : List ℕ → ℕ → ℕ
 reachNumber depths o = cond (eqb (getD depths o 0) 0) 6 0
 
--- 8, 9, 15; 13, 10; 6; 7; 11, 12, 14
-unfoldable pub routineRefusing : List ℕ → Limits → ℕ → Refusing
-routineRefusing image limits r =
+-- 13, 10; 6; 7; 11, 12, 14
+unfoldable pub flowRefusing : List ℕ → Limits → ℕ → Refusing
+flowRefusing image limits r =
     let x = cellsOf image limits r in
     let starts = startsOf image r in
     let e = exploredIn image limits r in
-    orElse (firstAt (λ o. codeNumber (endOf image r) o (instructionAt image r o)) starts)
-    (orElse (firstAt (jumpCheck x) starts)
+    orElse (firstAt (jumpCheck x) starts)
     (orElse (firstAt (reachNumber (e .depths)) starts)
     (orElse (cond (e .agree) nowhere (record { number = 7; at = startOf image r }))
-    (firstAt (depthCheck x (biasOf image limits r) (cells (e .depths))) starts))))
+    (firstAt (depthCheck x (biasOf image limits r) (cells (e .depths))) starts)))
+
+-- 8, 9, 15, and then the others
+unfoldable pub routineRefusing : List ℕ → Limits → ℕ → Refusing
+routineRefusing image limits r =
+    orElse (firstAt (λ o. codeNumber (endOf image r) o (instructionAt image r o)) (startsOf image r)) (flowRefusing image limits r)
 
 -- the stack bytes that an instruction has the routine use, at a depth above the bias
 abbrev pub callUse : List ℕ → ℕ → ℕ → ℕ
