@@ -12,3 +12,14 @@ pub mod Waiting
 pub mod Graphs
 pub mod Faults
 pub mod Strays
+pub mod DepthNumbers
+pub mod DepthTests
+pub mod DepthFaults
+pub mod RoutineRules
+pub mod RoutineNeed
+pub mod RoutinePasses
+pub mod OneRoutine
+pub mod AllRoutines
+pub mod NeedBounds
+pub mod WholeCode
+pub mod Outcomes

@@ -7,3 +7,7 @@ pub mod Paths
 pub mod Ends
 pub mod Numbers
 pub mod Outcomes
+pub mod Rising
+pub mod Using
+pub mod Counting
+pub mod Measures

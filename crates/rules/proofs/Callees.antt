@@ -1,5 +1,5 @@
 -- No two routines begin at one offset, so a call has one callee.
-use Prim.Native.Nat.{ℕ, _+_, _<_, _≤_}
+use Prim.Native.Nat.{ℕ, _<_, _≤_}
 use mathlib.Core.Path.{_≡_}
 use mathlib.Core.Logic.{by-cases}
 use mathlib.Core.List.{List}

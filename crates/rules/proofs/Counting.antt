@@ -1,7 +1,9 @@
 -- Counting the numbers that pass a test.
 use Prim.Native.Nat.{ℕ, zero, suc, _+_, _<_, _≤_}
 use mathlib.Core.Path.{_≡_, refl}
+use mathlib.Core.Logic.{by-cases}
 use mathlib.Core.Bool.{Bool, true, false}
+use native.Mathlib.Decide.{ℕ-discrete}
 use native.Mathlib.Nat.{add-zero, add-suc}
 use native.Mathlib.Omega.{arith}
 use Rattle.rules.specs.Rules.{countBelow}
@@ -24,3 +26,9 @@ count-one f n zero some here h = absurd (omega arith)
 count-one f n (suc l) some here h =
     let e : n + suc l ≡ suc n + l = omega arith in
     rw (e, count-none f (suc n) l (λ k low high. h k low (omega arith)), here)
+
+pub count-some : (f : ℕ → Bool) (n k : ℕ) → k < n → f k ≡ true → 1 ≤ countBelow f n
+unfolding countBelow
+count-some f zero k below here = absurd (omega arith)
+count-some f (suc n) k below here =
+    by-cases (ℕ-discrete k n) (λ e. rw (← e, here) (omega arith)) (λ ne. omega (arith, count-some f n k (omega arith) here))

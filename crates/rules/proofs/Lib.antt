@@ -8,9 +8,11 @@ pub mod Kept
 pub mod Ranges
 pub mod Phases
 pub mod Passing
+pub mod AgreedDepths
 pub mod OneNumber
 pub mod OneRefusal
 pub mod RefusalNumbers
 pub mod OneMarks
 pub mod OneOutcome
 pub mod EveryOutcome
+pub mod Bounds

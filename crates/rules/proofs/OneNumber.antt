@@ -1,25 +1,22 @@
--- Each phase names at most one number at an offset.
+-- Each phase names at most one number at an offset, the last one where the phase before it, that of the paths, has no fault.
 use Prim.Native.Nat.{ℕ, _+_, _<_, _≤_}
 use mathlib.Core.Path.{_≡_, refl, sym, _∙_}
-use mathlib.Core.Logic.{_⊎_, ⊎-elim, by-cases}
+use mathlib.Core.Logic.{_⊎_, ⊎-elim}
 use mathlib.Core.List.{List}
-use native.Mathlib.Decide.{ℕ-discrete}
 use native.Mathlib.Omega.{arith}
 use Rattle.stm8.specs.Effects.{effect}
 use Rattle.stm8.specs.declared.Instruction.{Instruction}
 use Rattle.stm8.specs.declared.Decoded.{Decoded}
 use Rattle.stm8.specs.declared.Decoded.the-variants.{Found, Outside, Truncated}
-use Rattle.stm8.specs.declared.Effect.{Effect}
 use Rattle.stm8.specs.declared.Flow.{Flow}
 use Rattle.image.specs.declared.Limits.{Limits}
 use Rattle.image.specs.Image.{baseOf, startOf, endOf}
-use Rattle.rules.specs.Depth.{popped, pushed}
-use Rattle.rules.specs.Code.{instructionAt, Jumps, branches, always, Path, Disagree}
-use Rattle.rules.specs.Rules.{StoreRules}
+use Rattle.rules.specs.Code.{instructionAt, Jumps, branches, always}
 use Rattle.rules.specs.Refusal.{CodeFault, outside, cut, off, JumpFault, leaves, inside, ReachFault, unreached, PathFault, disagree}
-use Rattle.rules.specs.Refusal.{InRange, Arrival, DepthFault, range, store, call, order, Fault}
+use Rattle.rules.specs.Refusal.{order, Fault}
 use Rattle.rules.proofs.Starts.{same-found}
 use Rattle.rules.proofs.Phases.{OneNumber, OneNumbers}
+use Rattle.rules.proofs.AgreedDepths.{one-depth-fault}
 
 -- 8, 9 and 15 go by what the bytes are
 codeNumber : Decoded → ℕ
@@ -48,67 +45,28 @@ not-both image r o f j out f′ j′ low high =
     let there = one-target (rw (same .0, same .1) at j) j′ in
     ⊎-elim (λ h. omega (arith, there)) (λ h. omega (arith, there)) out
 
+reach-number : {image : List ℕ} {r o n : ℕ} → ReachFault image r o n → n ≡ 6
+reach-number (unreached s none) = refl
+
+path-number : {image : List ℕ} {r o n : ℕ} → PathFault image r o n → n ≡ 7
+path-number (disagree d) = refl
+
 module _ {image : List ℕ} {r : ℕ} where
+  one-code : OneNumber (CodeFault image r)
+  one-code o n n′ a b = code-number a ∙ sym (code-number b)
+
   one-jump : OneNumber (JumpFault image r)
   one-jump o n n′ (leaves s f j out) (leaves t g k past) = refl
   one-jump o n n′ (leaves s f j out) (inside t g k low high none) = absurd (not-both image r o f j out g k low high)
   one-jump o n n′ (inside s f j low high none) (leaves t g k out) = absurd (not-both image r o g k out f j low high)
   one-jump o n n′ (inside s f j low high none) (inside t g k low′ high′ none′) = refl
 
-  reach-number : {o n : ℕ} → ReachFault image r o n → n ≡ 6
-  reach-number (unreached s none) = refl
+  one-reach : OneNumber (ReachFault image r)
+  one-reach o n n′ a b = reach-number a ∙ sym (reach-number b)
 
-  path-number : {o n : ℕ} → PathFault image r o n → n ≡ 7
-  path-number (disagree d) = refl
-
--- two paths whose depths are one are in range together
-range-moved : {e : Effect} {pushes pops pushes′ pops′ : ℕ} → pushes + pops′ ≡ pushes′ + pops → InRange e pushes pops → InRange e pushes′ pops′
-range-moved same h =
-    record {
-      before-low = omega (arith, h .before-low);
-      before-high = omega (arith, h .before-high);
-      after-low = omega (arith, h .after-low);
-      after-high = omega (arith, h .after-high);
-      return-empty = λ e. omega (arith, h .return-empty e);
-    }
-
--- and where no two paths disagree all depths of an instruction are one
-module _ {image : List ℕ} (limits : Limits) {r : ℕ} (agree : Disagree image r → ⊥) where
-  same-depth : {o pushes pops pushes′ pops′ : ℕ} → Path image r o pushes pops → Path image r o pushes′ pops′ → pushes + pops′ ≡ pushes′ + pops
-  same-depth {o} {pushes} {pops} {pushes′} {pops′} p q =
-      by-cases (ℕ-discrete (pushes + pops′) (pushes′ + pops)) (λ e. e)
-      (λ ne.
-      let d : Disagree image r =
-      record { offset = o; pushes = pushes; pops = pops; pushes′ = pushes′; pops′ = pops′; path = p; path′ = q; differ = ne } in
-      absurd (agree d))
-
-  module _ {o n n′ pushes pops pushes′ pops′ : ℕ} {i i′ : Instruction}
-      (a : Arrival image r o n i pushes pops) (b : Arrival image r o n′ i′ pushes′ pops′) where
-    in-range : InRange (effect i) pushes pops → InRange (effect i′) pushes′ pops′
-    in-range h = rw (same-found (a .found) (b .found) .0) at (range-moved (same-depth (a .path) (b .path)) h)
-
-    stores : (depth depth′ : ℕ) → depth + pops ≡ pushes → depth′ + pops′ ≡ pushes′ →
-        StoreRules limits depth (effect i .place) → StoreRules limits depth′ (effect i′ .place)
-    stores depth depth′ d d′ h =
-        let same : depth ≡ depth′ = omega (arith, same-depth (a .path) (b .path)) in
-        rw (same-found (a .found) (b .found) .0, same) at h
-
-  one-depth : OneNumber (DepthFault image limits r)
-  one-depth o n n′ (range a out) (range b out′) = refl
-  one-depth o n n′ (range a out) (store b h d e none) = absurd (out (in-range b a h))
-  one-depth o n n′ (range a out) (call b h d e ok c none) = absurd (out (in-range b a h))
-  one-depth o n n′ (store a h d e none) (range b out) = absurd (out (in-range a b h))
-  one-depth o n n′ (store a h d e none) (store b h′ d′ e′ none′) = refl
-  one-depth o n n′ (store a h d e none) (call b h′ d′ e′ ok c none′) = absurd (none (stores b a d′ d e′ e ok))
-  one-depth o n n′ (call a h d e ok c none) (range b out) = absurd (out (in-range a b h))
-  one-depth o n n′ (call a h d e ok c none) (store b h′ d′ e′ none′) = absurd (none′ (stores a b d d′ e e′ ok))
-  one-depth o n n′ (call a h d e ok c none) (call b h′ d′ e′ ok′ c′ none′) = refl
+  one-path : OneNumber (PathFault image r)
+  one-path o n n′ a b = path-number a ∙ sym (path-number b)
 
 pub one-numbers : (image : List ℕ) (limits : Limits) (r : ℕ) → OneNumbers (Fault image limits r) order
-one-numbers image limits r = (
-  λ o n n′ a b. code-number a ∙ sym (code-number b),
-  λ _. (one-jump, λ _. (
-    λ o n n′ a b. reach-number a ∙ sym (reach-number b),
-    λ _. (
-      λ o n n′ a b. path-number a ∙ sym (path-number b),
-      λ none. (one-depth limits (λ d. none _ _ (disagree d)), λ _. tt)))))
+one-numbers image limits r =
+    (one-code, λ _. (one-jump, λ _. (one-reach, λ _. (one-path, λ none. (one-depth-fault (λ d. none _ _ (disagree d)) limits, λ _. tt)))))

@@ -8,7 +8,7 @@ use lib.ListN.{length, drop, replicate}
 use Rattle.image.specs.declared.Limits.{Limits}
 use Rattle.image.specs.declared.Layout.{Layout}
 use Rattle.image.specs.declared.Validated.the-variants as Validated
-use Rattle.image.specs.Image.{countOf, sizeOf, mainOf, layoutOf}
+use Rattle.image.specs.Image.{countOf, sizeOf, mainOf}
 use Rattle.image.specs.Rules.{ImageRules}
 use Rattle.image.specs.Validation.{validated}
 use Rattle.image.proofs.Validity.{valid-rules, rules-valid}
@@ -77,7 +77,7 @@ module _ {image : List ℕ} {limits : Limits} {before before′ : List ℕ}
   outcomes-agree (accepted h marks past) (accepted h′ marks′ past′) = (
     one-acceptance h h′,
     λ m.
-    one-marks (λ r o inside s. one-depth (h .rules .routines r inside) (h′ .rules .routines r inside) o s) marks marks′ past (rw m past′),
+        one-marks (λ r o inside s. one-depth (h .rules .routines r inside) (h′ .rules .routines r inside) o s) marks marks′ past (rw m past′),
   )
 
 pub one-outcome : {image : List ℕ} {limits : Limits} {before : List ℕ} {v v′ : Verdict} {after after′ : List ℕ} →

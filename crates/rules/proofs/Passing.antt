@@ -1,6 +1,6 @@
 -- A routine that meets the rules has no fault: every path comes to a start with its depth, and no phase refuses.
 use Prim.Native.Nat.{ℕ, _+_, _<_}
-use mathlib.Core.Path.{_≡_, sym, ap, _∙_}
+use mathlib.Core.Path.{_≡_}
 use mathlib.Core.Logic.{⊎-elim}
 use mathlib.Core.List.{List}
 use native.Mathlib.Omega.{arith}
@@ -8,9 +8,9 @@ use Rattle.stm8.specs.Effects.{effect}
 use Rattle.stm8.specs.declared.Instruction.{Instruction}
 use Rattle.image.specs.declared.Limits.{Limits}
 use Rattle.image.specs.Image.{startOf, endOf}
-use Rattle.rules.specs.Depth.{popped, pushed, after}
+use Rattle.rules.specs.Depth.{after}
 use Rattle.rules.specs.Code.{Start, begins, Path, entry, onward, Disagree}
-use Rattle.rules.specs.Rules.{StoreRules, RoutineRules}
+use Rattle.rules.specs.Rules.{RoutineRules}
 use Rattle.rules.specs.Refusal.{CodeFault, outside, cut, off, JumpFault, leaves, inside, ReachFault, unreached, PathFault, disagree}
 use Rattle.rules.specs.Refusal.{InRange, Arrival, DepthFault, range, store, call, Phase, codes, jumps, reach, paths, depths, Fault, RoutineRefusal}
 use Rattle.rules.proofs.Starts.{start-high}

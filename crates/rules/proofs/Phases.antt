@@ -1,6 +1,6 @@
 -- The lowest fault of the first phase that has one: it is a fault of some phase, and there is at most one where each phase names at most one number
 -- at an offset. Of a phase that need hold only where the phases before it have no fault.
-use Prim.Native.Nat.{ℕ, _<_}
+use Prim.Native.Nat.{ℕ}
 use mathlib.Core.Path.{_≡_}
 use mathlib.Core.Logic.{by-cases}
 use mathlib.Core.List.{List, [], _∷_}
