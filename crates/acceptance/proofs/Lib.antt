@@ -23,3 +23,4 @@ pub mod AllRoutines
 pub mod NeedBounds
 pub mod WholeCode
 pub mod Outcomes
+pub mod CheckFunction

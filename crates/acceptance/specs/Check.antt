@@ -72,6 +72,10 @@ useAt x needs bias depths o =
     let depth = getD depths o 0 - bias in
     max (max depth (depth + x .graph .pushes o - x .graph .pops o)) (callUse needs depth (x .calls o))
 
+abbrev pub routineNeed : List ℕ → Limits → ℕ → List ℕ → ℕ
+routineNeed image limits r needs =
+    foldr max 0 (map (useAt (cellsOf image limits r) needs (biasOf image limits r) (exploredIn image limits r .depths)) (startsOf image r))
+
 -- the state between routines: the first refusal, the needs of the routines that are done, their marks, and how many starts they have
 pub record Sweeping : Type 0 where
   pub refusal : Refusing
@@ -86,14 +90,11 @@ markAll bias depths marks starts = foldr (λ o so-far. set so-far o (getD depths
 -- after a routine that passes
 abbrev pub passedBy : List ℕ → Limits → ℕ → Sweeping → Sweeping
 passedBy image limits r s =
-    let x = cellsOf image limits r in
-    let bias = biasOf image limits r in
-    let depths = exploredIn image limits r .depths in
     record {
       refusal = nowhere;
-      needs = set (s .needs) r (foldr max 0 (map (useAt x (s .needs) bias depths) (startsOf image r)));
-      marks = markAll bias depths (s .marks) (startsOf image r);
-      count = s .count + countFrom (x .starts) (startOf image r) (endOf image r - startOf image r);
+      needs = set (s .needs) r (routineNeed image limits r (s .needs));
+      marks = markAll (biasOf image limits r) (exploredIn image limits r .depths) (s .marks) (startsOf image r);
+      count = s .count + countFrom (cellsOf image limits r .starts) (startOf image r) (endOf image r - startOf image r);
     }
 
 -- n routines from r on, to the first that is refused
