@@ -24,3 +24,5 @@ pub mod NeedBounds
 pub mod WholeCode
 pub mod Outcomes
 pub mod CheckFunction
+pub mod Accepting
+pub mod EveryCheck
