@@ -9,6 +9,7 @@ use Rattle.image.specs.Image.{countOf, startOf}
 use Rattle.image.specs.Rules.{ImageRules}
 use Rattle.image.proofs.Layouts.{begins-before-end}
 use Rattle.image.proofs.Measuring.{end-before}
+use Rattle.rules.specs.Code.{Callee}
 
 module _ (image : List ℕ) (layout : ImageRules image) where
   pub start-before : (j k : ℕ) → j < k → k ≤ countOf image → startOf image j < startOf image k
@@ -18,3 +19,7 @@ module _ (image : List ℕ) (layout : ImageRules image) where
   one-routine j k a b e =
       by-cases (ℕ-discrete j k) (λ z. z)
       (λ z. by-cases (decLt j k) (λ l. absurd (omega (arith, start-before j k l b))) (λ l. absurd (omega (arith, start-before k j (omega arith) a))))
+
+  pub one-callee : {r address j k : ℕ} → r ≤ countOf image → Callee image r address j → Callee image r address k → j ≡ k
+  one-callee inside c d =
+      one-routine _ _ (omega (arith, c .earlier)) (omega (arith, d .earlier)) (omega (arith, c .target, d .target))
