@@ -5,7 +5,7 @@ use mathlib.Core.Logic.{inl, inr, by-cases}
 use mathlib.Core.List.{List}
 use native.Mathlib.Decide.{decLt}
 use native.Mathlib.Omega.{arith}
-use lib.ListN.{length, getD, set, replicate, length-replicate, length-set}
+use lib.ListN.{getD, set, replicate, length-replicate, length-set}
 use lib.Seq.{getD-set-same, getD-set-other}
 use borrow.Author.Count.{below-more}
 use Rattle.image.specs.declared.Limits.{Limits}

@@ -6,23 +6,19 @@ use mathlib.Core.List.{List}
 use native.Mathlib.Decide.{ℕ-discrete, decLt}
 use native.Mathlib.Omega.{arith}
 use borrow.Author.Tests.{eq-eqb, ne-eqb, lt-ltb, le-ltb}
+use Rattle.stm8.specs.Effects.{effect}
 use Rattle.stm8.specs.declared.Flow.{Flow}
 use Rattle.stm8.specs.declared.Flow.the-variants.{Next, Branch, Jump, Call, CallRelative, Return}
-use Rattle.image.specs.Image.{baseOf, countOf, startOf}
-use Rattle.image.specs.Rules.{ImageRules}
+use Rattle.image.specs.declared.Limits.{Limits}
+use Rattle.image.specs.Image.{baseOf, startOf}
 use Rattle.rules.specs.Code.{Calls, absolute, near, Callee}
-use Rattle.rules.proofs.Callees.{one-routine}
-use Rattle.acceptance.specs.Cells.{beginning, callee, calleeCell, callCell}
+use Rattle.control_flow.specs.Routine as cells
+use Rattle.acceptance.specs.Cells.{beginning, callee, calleeCell, callCell, Stored}
 
--- a call has one target, and a target one callee
+-- a call has one target
 pub one-call : {next a b : ℕ} {flow : Flow} → Calls next flow a → Calls next flow b → a ≡ b
 one-call absolute absolute = refl
 one-call near near = refl
-
-module _ {image : List ℕ} (layout : ImageRules image) {r : ℕ} (inside : r ≤ countOf image) where
-  pub one-callee : {address j k : ℕ} → Callee image r address j → Callee image r address k → j ≡ k
-  one-callee c d =
-      one-routine image layout _ _ (omega (arith, c .earlier)) (omega (arith, d .earlier)) (omega (arith, c .target, d .target))
 
 -- the search for a routine that begins at an offset
 module _ (image : List ℕ) (offset : ℕ) where
@@ -64,7 +60,8 @@ module _ (image : List ℕ) (r : ℕ) where
   pub data CallCell (next : ℕ) (flow : Flow) : ℕ → Type 0 where
     none : ((address : ℕ) → Calls (baseOf image + next) flow address → ⊥) → CallCell next flow 0
     calls : {address k : ℕ} → Calls (baseOf image + next) flow address → Callee image r address k → CallCell next flow (k + 1)
-    nowhere : {address : ℕ} → Calls (baseOf image + next) flow address → ((k : ℕ) → Callee image r address k → ⊥) → CallCell next flow 255
+    nowhere : {address : ℕ} → Calls (baseOf image + next) flow address → ((k : ℕ) → Callee image r address k → ⊥) →
+        CallCell next flow 255
 
   calling : {next address : ℕ} {flow : Flow} → Calls (baseOf image + next) flow address → CallCell next flow (calleeCell image r address)
   unfolding calleeCell
@@ -82,3 +79,7 @@ module _ (image : List ℕ) (r : ℕ) where
   call-cell next (Call a) = calling absolute
   call-cell next (CallRelative n) = calling near
   call-cell next Return = none (λ a. elim [ ])
+
+pub call-stored : {image : List ℕ} {limits : Limits} {r o : ℕ} {x : cells.Routine} (c : Stored image limits r x o) →
+    CallCell image r (o + c .size) (effect (c .instruction) .flow) (x .calls o)
+call-stored {image} {r = r} {o} c = rw (c .call) (call-cell image r (o + c .size) (effect (c .instruction) .flow))

@@ -8,12 +8,14 @@ use Rattle.image.specs.declared.Limits.{Limits}
 use Rattle.image.specs.Image.{baseOf, countOf}
 use Rattle.image.specs.Rules.{ImageRules}
 use Rattle.rules.specs.Code.{Start, Path}
-use Rattle.rules.specs.Refusal.{Arrival, DepthFault, range, store, call}
+use Rattle.rules.specs.Refusal.{Arrival, DepthFault, range, store, call, depths}
 use Rattle.rules.proofs.Starts.{same-found}
+use Rattle.rules.proofs.RefusalNumbers.{fault-at}
 use Rattle.control_flow.specs.Routine as cells
 use Rattle.control_flow.specs.Outcome.{AllReached, Held, Passes}
+use Rattle.control_flow.proofs.Paths.{reached-path}
+use Rattle.control_flow.proofs.Numbers.{well-formed}
 use Rattle.acceptance.specs.Cells.{Filled}
-use Rattle.acceptance.proofs.Waiting.{reached-path, well-formed}
 use Rattle.acceptance.proofs.Graphs.{decoded, path-code, path-graph}
 use Rattle.acceptance.proofs.Faults.{Finds}
 use Rattle.acceptance.proofs.DepthTests.{Allowed, Tested, tested, allows, fault}
@@ -35,7 +37,8 @@ pub record Arrived (image : List ℕ) (r o : ℕ) : Type 0 where
   pub pops : ℕ
   pub arrival : Arrival image r o size instruction pushes pops
 
-module _ {image : List ℕ} {limits : Limits} {r : ℕ} {x : cells.Routine} {bias : ℕ} {held : ℕ → ℕ} (h : Explored image limits r x bias held) where
+module _ {image : List ℕ} {limits : Limits} {r : ℕ} {x : cells.Routine} {bias : ℕ} {held : ℕ → ℕ}
+    (h : Explored image limits r x bias held) where
   pub wellFormed : cells.WellFormed x
   wellFormed = well-formed (decoded (h .filled) (h .layout) (h .inside)) (h .landed)
 
@@ -60,16 +63,11 @@ module _ {image : List ℕ} {limits : Limits} {r : ℕ} {x : cells.Routine} {bia
   test {o} a =
       let c = h .filled .cells o (a .start) in
       let same = same-found (a .found) (c .found) in
-      rw (same .0, same .1) (tested (h .layout) (h .inside) c bias (held o) _ _ (path-held (a .path) .1))
+      rw (same .0, same .1) (tested (h .layout) (h .inside) c bias held _ _ (path-held (a .path) .1))
 
   pub depth-allows : {o n pushes pops : ℕ} {i : Instruction} → Arrival image r o n i pushes pops → cells.depthCheck x bias held o ≡ 0 →
       Allowed image limits r (baseOf image + (o + n)) (effect i) pushes pops
   depth-allows a pass = allows (test a) pass
-
-  fault-start : {o n : ℕ} → DepthFault image limits r o n → Start image r o
-  fault-start (range a out) = a .start
-  fault-start (store a in-range d e out) = a .start
-  fault-start (call a in-range d e s c none) = a .start
 
   no-fault : {o n : ℕ} → DepthFault image limits r o n → cells.depthCheck x bias held o ≡ 0 → ⊥
   no-fault (range a out) pass = out (depth-allows a pass .ranges)
@@ -80,6 +78,6 @@ module _ {image : List ℕ} {limits : Limits} {r : ℕ} {x : cells.Routine} {bia
   depth-faults =
       record {
         finds = λ o s some. let a = arrived (h .filled .start o s) .arrival in fault a (test a) some;
-        start = λ o n f. h .filled .starts o (fault-start f);
+        start = λ o n f. h .filled .starts o (fault-at limits depths o n f .start);
         fails = λ o n f. no-fault f;
       }

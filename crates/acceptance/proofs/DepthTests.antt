@@ -21,26 +21,27 @@ use Rattle.acceptance.proofs.StoreCells.{store-cell}
 use Rattle.acceptance.proofs.CallCells as calls
 use Rattle.acceptance.proofs.DepthNumbers.{Inside, DepthTest, outside, denied, lost, allowed, depth-test}
 
--- an instruction, at the depth of a path, passes 11, 12 and 14
-pub record Allowed (image : List ℕ) (limits : Limits) (r next : ℕ) (e : Effect) (pushes pops : ℕ) : Type 0 where
-  pub ranges : InRange e pushes pops
-  pub stores : (depth : ℕ) → depth + pops ≡ pushes → StoreRules limits depth (e .place)
-  pub calls : {address : ℕ} → Calls next (e .flow) address → (callee : ℕ) × Callee image r address callee
+-- an instruction before the address `next`, at the depth of a path
+module _ (image : List ℕ) (limits : Limits) (r next : ℕ) (e : Effect) (pushes pops : ℕ) where
+  -- it passes 11, 12 and 14
+  pub record Allowed : Type 0 where
+    pub ranges : InRange e pushes pops
+    pub stores : (depth : ℕ) → depth + pops ≡ pushes → StoreRules limits depth (e .place)
+    pub calls : {address : ℕ} → Calls next (e .flow) address → (callee : ℕ) × Callee image r address callee
 
--- the number that it gets
-pub data Tested (image : List ℕ) (limits : Limits) (r next : ℕ) (e : Effect) (pushes pops : ℕ) : ℕ → Type 0 where
-  ranging : (InRange e pushes pops → ⊥) → Tested image limits r next e pushes pops 11
-  storing : InRange e pushes pops → (depth : ℕ) → depth + pops ≡ pushes → (StoreRules limits depth (e .place) → ⊥) →
-      Tested image limits r next e pushes pops 12
-  calling : {address : ℕ} → InRange e pushes pops → (depth : ℕ) → depth + pops ≡ pushes → StoreRules limits depth (e .place) →
-      Calls next (e .flow) address → ((callee : ℕ) → Callee image r address callee → ⊥) → Tested image limits r next e pushes pops 14
-  passing : Allowed image limits r next e pushes pops → Tested image limits r next e pushes pops 0
+  -- the number that it gets
+  pub data Tested : ℕ → Type 0 where
+    ranging : (InRange e pushes pops → ⊥) → Tested 11
+    storing : InRange e pushes pops → (depth : ℕ) → depth + pops ≡ pushes → (StoreRules limits depth (e .place) → ⊥) → Tested 12
+    calling : {address : ℕ} → InRange e pushes pops → (depth : ℕ) → depth + pops ≡ pushes → StoreRules limits depth (e .place) →
+        Calls next (e .flow) address → ((callee : ℕ) → Callee image r address callee → ⊥) → Tested 14
+    passing : Allowed → Tested 0
 
--- what its cells say, where held is the depth of the path
+-- what its cells say, where the depth that is held is that of the path
 module _ {image : List ℕ} {limits : Limits} {r o : ℕ} {x : cells.Routine} (layout : ImageRules image) (inside : r < countOf image)
-    (c : Stored image limits r x o) (bias held pushes pops : ℕ) (comes : held + pops ≡ bias + pushes) where
+    (c : Stored image limits r x o) (bias : ℕ) (held : ℕ → ℕ) (pushes pops : ℕ) (comes : held o + pops ≡ bias + pushes) where
   abbrev InsideCells : Type 0
-  InsideCells = Inside bias held (x .graph .falls o) (x .graph .jumps o) (x .graph .pops o) (x .graph .pushes o) (x .stores o) (x .calls o)
+  InsideCells = Inside bias (held o) (x .graph .falls o) (x .graph .jumps o) (x .graph .pops o) (x .graph .pushes o) (x .stores o) (x .calls o)
 
   ends : (effect (c .instruction) .flow ≡ Return) ↔ ((x .graph .falls o ≡ 0) × (x .graph .jumps o ≡ 0))
   ends = rw (c .fall, c .jump) (return-cells (baseOf image) (startOf image r) (endOf image r) (o + c .size) (effect (c .instruction) .flow))
@@ -65,7 +66,8 @@ module _ {image : List ℕ} {limits : Limits} {r o : ℕ} {x : cells.Routine} (l
         },
   )
 
-  stores-at : InsideCells → (depth : ℕ) → depth + pops ≡ pushes → (bias + x .stores o ≤ held) ↔ StoreRules limits depth (effect (c .instruction) .place)
+  stores-at : InsideCells → (depth : ℕ) → depth + pops ≡ pushes →
+      (bias + x .stores o ≤ held o) ↔ StoreRules limits depth (effect (c .instruction) .place)
   stores-at h depth e =
       let cell = store-cell limits depth (omega (arith, h .before-high)) (effect (c .instruction) .place) in
       (λ l. cell .0 (omega (arith, c .store)), λ s. omega (arith, c .store, cell .1 s))
@@ -88,11 +90,8 @@ module _ {image : List ℕ} {limits : Limits} {r o : ℕ} {x : cells.Routine} (l
   lost-call (calls.calls d to) l h depth e s = absurd (omega (arith, to .earlier, layout .count .1))
   lost-call (calls.nowhere d none) l h depth e s = calling h depth e s d none
 
-  call-here : CallCell (x .calls o)
-  call-here = rw (c .call) (calls.call-cell image r (o + c .size) (effect (c .instruction) .flow))
-
   tested-by : {number : ℕ} →
-      DepthTest bias held (x .graph .falls o) (x .graph .jumps o) (x .graph .pops o) (x .graph .pushes o) (x .stores o) (x .calls o) number →
+      DepthTest bias (held o) (x .graph .falls o) (x .graph .jumps o) (x .graph .pops o) (x .graph .pushes o) (x .stores o) (x .calls o) number →
       TestedHere number
   tested-by (outside out) = ranging (λ h. out (inside-range .1 h))
   tested-by (denied h l) =
@@ -100,11 +99,11 @@ module _ {image : List ℕ} {limits : Limits} {r o : ℕ} {x : cells.Routine} (l
       storing (inside-range .0 h) (pushes - pops) d (λ s. omega (arith, stores-at h (pushes - pops) d .1 s))
   tested-by (lost h s l) =
       let d : pushes - pops + pops ≡ pushes = omega (arith, h .before-low) in
-      lost-call call-here l (inside-range .0 h) (pushes - pops) d (stores-at h (pushes - pops) d .0 s)
+      lost-call (calls.call-stored c) l (inside-range .0 h) (pushes - pops) d (stores-at h (pushes - pops) d .0 s)
   tested-by (allowed h s l) =
-      passing (record { ranges = inside-range .0 h; stores = λ depth d. stores-at h depth d .0 s; calls = callees call-here l })
+      passing (record { ranges = inside-range .0 h; stores = λ depth d. stores-at h depth d .0 s; calls = callees (calls.call-stored c) l })
 
-  pub tested : TestedHere (cells.depthNumber bias held (x .graph .falls o) (x .graph .jumps o) (x .graph .pops o) (x .graph .pushes o) (x .stores o) (x .calls o))
+  pub tested : TestedHere (cells.depthCheck x bias held o)
   tested = tested-by (depth-test _ _ _ _ _ _ _ _)
 
 pub allows : {image : List ℕ} {limits : Limits} {r next pushes pops number : ℕ} {e : Effect} →

@@ -8,7 +8,7 @@ use native.Mathlib.Decide.{decLt}
 use native.Mathlib.Omega.{arith}
 use Rattle.stm8.specs.Effects.{effect}
 use Rattle.image.specs.declared.Limits.{Limits}
-use Rattle.image.specs.Image.{baseOf, countOf, startOf, endOf}
+use Rattle.image.specs.Image.{countOf}
 use Rattle.image.specs.Rules.{ImageRules}
 use Rattle.image.proofs.Measuring.{end-inside}
 use Rattle.rules.specs.Depth.{falls}
@@ -17,14 +17,9 @@ use Rattle.rules.proofs.Starts.{same-found}
 use Rattle.control_flow.specs.Graph as graph
 use Rattle.control_flow.specs.Routine as cells
 use Rattle.acceptance.specs.Cells.{Filled}
-use Rattle.acceptance.proofs.JumpCells.{fall-cell, JumpCell, jump-cell, cell-target, jump-target}
+use Rattle.acceptance.proofs.JumpCells.{fall-cell, cell-target, jump-target, jump-stored}
 
 module _ {image : List ℕ} {limits : Limits} {r : ℕ} {x : cells.Routine} (filled : Filled image limits r x) where
-  pub jump-of : {o : ℕ} (s : Start image r o) →
-      JumpCell (baseOf image) (startOf image r) (endOf image r) (o + filled .cells o s .size) (effect (filled .cells o s .instruction) .flow)
-      (x .graph .jumps o)
-  jump-of {o} s = let c = filled .cells o s in rw (c .jump) (jump-cell _ _ _ (o + c .size) (effect (c .instruction) .flow))
-
   fall-to : {o to : ℕ} (s : Start image r o) → x .graph .falls o ≡ to + 1 →
       (falls (effect (filled .cells o s .instruction) .flow) ≡ true) × (to ≡ o + filled .cells o s .size)
   fall-to {o} {to} s e =
@@ -41,7 +36,7 @@ module _ {image : List ℕ} {limits : Limits} {r : ℕ} {x : cells.Routine} (fil
             let f = fall-to t e in
             rw (f .1) (filled .starts _ (follows t (filled .cells o t .found) (filled .cells o t .inside (f .0))));
         jumps = λ o to s e small.
-            let t = cell-target _ _ _ _ (jump-of (filled .start o s)) e small in
+            let t = cell-target _ _ _ _ (jump-stored (filled .cells o (filled .start o s))) e small in
             rw (filled .entry, filled .end) (t .1, t .2);
       }
 
@@ -61,7 +56,7 @@ module _ {image : List ℕ} {limits : Limits} {r : ℕ} {x : cells.Routine} (fil
     pub edge-goes : {o to : ℕ} → Start image r o → graph.Edge (x .graph) o to → Goes image r o to
     edge-goes {o} s (graph.falling e) = let f = fall-to s e in falling (filled .cells o s .found) (f .0) (f .1)
     edge-goes {o} s (graph.jumping e) =
-        jumping (filled .cells o s .found) (cell-target _ _ _ _ (jump-of s) e (omega (arith, jump-small s)) .0)
+        jumping (filled .cells o s .found) (cell-target _ _ _ _ (jump-stored (filled .cells o s)) e (omega (arith, jump-small s)) .0)
 
     pub goes-edge : {o to : ℕ} → Start image r o → Goes image r o to → graph.Edge (x .graph) o to
     goes-edge {o} s (falling f t e) =
@@ -71,7 +66,7 @@ module _ {image : List ℕ} {limits : Limits} {r : ℕ} {x : cells.Routine} (fil
         graph.falling (omega (arith, cell, same .1))
     goes-edge {o} s (jumping f j) =
         let same = same-found f (filled .cells o s .found) in
-        graph.jumping (jump-target _ _ _ _ (jump-of s) (rw (same .0, same .1) at j) (jump-small s))
+        graph.jumping (jump-target _ _ _ _ (jump-stored (filled .cells o s)) (rw (same .0, same .1) at j) (jump-small s))
 
     -- reach is reach, and of starts alone
     reached-both : {o : ℕ} → graph.Reached (x .graph) o → Start image r o × Reached image r o

@@ -1,26 +1,25 @@
 -- What the cells of a fall and of a jump say of where control goes.
 use Prim.Native.Nat.{ℕ, _+_, _-_, _<_, _≤_}
-use mathlib.Core.Path.{_≡_, refl, sym}
+use mathlib.Core.Path.{_≡_, refl}
 use mathlib.Core.Logic.{_↔_, _⊎_, inl, inr, by-cases}
 use mathlib.Core.Bool.{Bool, true, false, cond}
+use mathlib.Core.List.{List}
 use native.Mathlib.Decide.{decLt}
 use native.Mathlib.Omega.{arith}
 use borrow.Author.Tests.{lt-ltb, le-ltb}
-use Rattle.stm8.specs.Effects.{relative}
+use Rattle.stm8.specs.Effects.{relative, effect}
 use Rattle.stm8.specs.declared.Flow.{Flow}
 use Rattle.stm8.specs.declared.Flow.the-variants.{Next, Branch, Jump, Call, CallRelative, Return}
-use Rattle.rules.specs.Depth.{falls}
+use Rattle.image.specs.declared.Limits.{Limits}
+use Rattle.image.specs.Image.{baseOf, startOf, endOf}
 use Rattle.rules.specs.Code.{Jumps, branches, always}
-use Rattle.acceptance.specs.Cells.{fallCell, targetCell, jumpCell}
+use Rattle.rules.proofs.OneNumber.{one-target}
+use Rattle.control_flow.specs.Routine as cells
+use Rattle.acceptance.specs.Cells.{fallCell, targetCell, jumpCell, Stored}
 
 pub fall-cell : (b : Bool) (next to : ℕ) → cond b (next + 1) 0 ≡ to + 1 → (b ≡ true) × (to ≡ next)
 fall-cell true next to e = (refl, omega arith)
 fall-cell false next to e = absurd (omega arith)
-
--- a jump has one target
-pub one-target : {next a b : ℕ} {flow : Flow} → Jumps next flow a → Jumps next flow b → a ≡ b
-one-target branches branches = refl
-one-target always always = refl
 
 module _ (base start end : ℕ) where
   -- an address lies in the routine, as its cell says, or outside
@@ -45,7 +44,8 @@ module _ (base start end : ℕ) where
   pub data JumpCell (next : ℕ) (flow : Flow) : ℕ → Type 0 where
     none : ((address : ℕ) → Jumps (base + next) flow address → ⊥) → JumpCell next flow 0
     stays : {to : ℕ} → Jumps (base + next) flow (base + to) → start ≤ to → to < end → JumpCell next flow (to + 1)
-    leaves : {address : ℕ} → Jumps (base + next) flow address → (address < base + start) ⊎ (base + end ≤ address) → JumpCell next flow 65535
+    leaves : {address : ℕ} → Jumps (base + next) flow address → (address < base + start) ⊎ (base + end ≤ address) →
+        JumpCell next flow 65535
 
   jumping : {next address cell : ℕ} {flow : Flow} → Jumps (base + next) flow address → Target address cell → JumpCell next flow cell
   jumping j (within e low high) = stays (rw e at j) low high
@@ -87,3 +87,7 @@ module _ (base start end : ℕ) where
       back (Call a) f j = absurd (omega arith)
       back (CallRelative n) f j = absurd (omega arith)
       back Return f j = refl
+
+pub jump-stored : {image : List ℕ} {limits : Limits} {r o : ℕ} {x : cells.Routine} (c : Stored image limits r x o) →
+    JumpCell (baseOf image) (startOf image r) (endOf image r) (o + c .size) (effect (c .instruction) .flow) (x .graph .jumps o)
+jump-stored {o = o} c = rw (c .jump) (jump-cell _ _ _ (o + c .size) (effect (c .instruction) .flow))

@@ -8,9 +8,9 @@ pub mod FlowFunction
 pub mod JumpCells
 pub mod StoreCells
 pub mod CallCells
-pub mod Waiting
 pub mod Graphs
 pub mod Faults
+pub mod CodeFaults
 pub mod Strays
 pub mod DepthNumbers
 pub mod DepthTests

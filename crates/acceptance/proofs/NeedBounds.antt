@@ -1,6 +1,5 @@
 -- A routine adds at most 257 to the need of those before it: 255 for its depth and 2 at a call.
 use Prim.Native.Nat.{ℕ, zero, suc, _+_, _*_, _<_, _≤_}
-use mathlib.Core.Path.{_≡_}
 use mathlib.Core.List.{List, [], _∷_}
 use native.Mathlib.Omega.{arith}
 use lib.ListN.{getD, set, replicate}
@@ -10,7 +9,7 @@ use Rattle.image.specs.declared.Limits.{Limits}
 use Rattle.image.specs.Image.{baseOf}
 use Rattle.rules.specs.Rules.{InstructionRules, StartAt, InstructionUse, before, behind, calling}
 use Rattle.rules.proofs.Unique.{rules-found}
-use Rattle.acceptance.specs.Passed.{depthIn, needIn, RoutinePassed, RoutinesPassed}
+use Rattle.acceptance.specs.Passed.{needIn, RoutinePassed}
 use Rattle.acceptance.proofs.AllRoutines.{zeros-at}
 
 use-bound : {image : List ℕ} {limits : Limits} {depth : ℕ → ℕ} {need : ℕ → ℕ} {r o n v : ℕ} {i : Instruction} →
@@ -28,7 +27,7 @@ need-bound p earlier = let u = p .most .is in use-bound (rules-found (p .rules) 
 pub no-needs : (k : ℕ) → needIn (replicate 32 0) k ≤ 257 * 0
 no-needs k = omega (arith, zeros-at 32 k)
 
-pub set-bound : (l : List ℕ) (i v bound : ℕ) → ((k : ℕ) → getD l k 0 ≤ bound) → v ≤ bound → (k : ℕ) → getD (set l i v) k 0 ≤ bound
+set-bound : (l : List ℕ) (i v bound : ℕ) → ((k : ℕ) → getD l k 0 ≤ bound) → v ≤ bound → (k : ℕ) → getD (set l i v) k 0 ≤ bound
 set-bound [] i v bound all h k = all k
 set-bound (n ∷ l) zero v bound all h zero = h
 set-bound (n ∷ l) zero v bound all h (suc k) = all (suc k)

@@ -1,7 +1,6 @@
 -- The outcome of a check whose image is valid and whose marks are enough: accepted, or refused with 16 or in a routine.
 use Prim.Native.Nat.{ℕ, _+_, _-_, _<_, _≤_}
 use mathlib.Core.Path.{_≡_, sym, ap, _∙_}
-use mathlib.Core.Logic.{⊎-map}
 use mathlib.Core.List.{List, _++_}
 use native.Mathlib.Omega.{arith}
 use lib.ListN.{length, getD, drop, replicate, length-append, length-drop, List·getD-append}
@@ -16,7 +15,6 @@ use Rattle.image.proofs.Validity.{valid-rules}
 use Rattle.image.proofs.Layouts.{begins-before-end}
 use Rattle.image.proofs.Measuring.{end-inside}
 use Rattle.rules.specs.Depth.{reportedNeed}
-use Rattle.rules.specs.Code.{Start}
 use Rattle.rules.specs.Refusal.{RoutineRefusal, inRoutine, noRoom}
 use Rattle.rules.specs.Acceptance.{Acceptable, AcceptedMarks, PastCode}
 use Rattle.rules.specs.Outcome.{Outcome, refused, accepted}
@@ -43,7 +41,8 @@ module _ (image before marks : List ℕ) (size : length marks ≡ sizeOf image) 
   code-mark : (o : ℕ) → o < sizeOf image → getD (marks ++ drop (sizeOf image) before) o 0 ≡ getD marks o 0
   code-mark o below = List·getD-append marks (drop (sizeOf image) before) 0 o (omega arith)
 
-  marks-kept : ImageRules image → {depth : ℕ → ℕ} → AcceptedMarks image depth marks → AcceptedMarks image depth (marks ++ drop (sizeOf image) before)
+  marks-kept : ImageRules image → {depth : ℕ → ℕ} → AcceptedMarks image depth marks →
+      AcceptedMarks image depth (marks ++ drop (sizeOf image) before)
   marks-kept layout m =
       record {
         starts = λ r o inside s.

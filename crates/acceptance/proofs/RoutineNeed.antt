@@ -11,6 +11,7 @@ use Rattle.rules.specs.Depth.{after}
 use Rattle.rules.specs.Code.{Start, Calls, Callee}
 use Rattle.rules.specs.Rules.{InstructionRules, StartAt, RoutineRules, InstructionUse, before, behind, calling, Use, Greatest}
 use Rattle.rules.proofs.Starts.{same-found}
+use Rattle.rules.proofs.Callees.{one-callee}
 use Rattle.rules.proofs.Unique.{rules-found}
 use Rattle.control_flow.specs.Routine as cells
 use Rattle.acceptance.specs.Cells.{Stored, Filled}
@@ -28,9 +29,6 @@ module _ {image : List ℕ} {limits : Limits} {r o : ℕ} {x : cells.Routine} (l
   abbrev CallCell : ℕ → Type 0
   CallCell = calls.CallCell image r (o + c .size) (effect (c .instruction) .flow)
 
-  call-here : CallCell (x .calls o)
-  call-here = rw (c .call) (calls.call-cell image r (o + c .size) (effect (c .instruction) .flow))
-
   cell-call : {cell : ℕ} → CallCell cell → (k : ℕ) → cell ≡ k + 1 → Used (depth o + 2 + needIn needs k)
   cell-call (calls.none absent) k e = absurd (omega arith)
   cell-call (calls.calls {k = j} d to) k e = let same : k ≡ j = omega arith in rw same (calling d to)
@@ -42,19 +40,19 @@ module _ {image : List ℕ} {limits : Limits} {r o : ℕ} {x : cells.Routine} (l
   uses-used {v} (cells.behind e) =
       let same : v ≡ after (effect (c .instruction)) (depth o) = omega (arith, c .pop, c .push, rules .pops-enough) in
       rw same behind
-  uses-used {v} (cells.calling k e f) = let same : v ≡ depth o + 2 + needIn needs k = omega arith in rw same (cell-call call-here k e)
+  uses-used {v} (cells.calling k e f) = let same : v ≡ depth o + 2 + needIn needs k = omega arith in rw same (cell-call (calls.call-stored c) k e)
 
   call-cell : {cell address : ℕ} → CallCell cell → (k : ℕ) → Calls (baseOf image + (o + c .size)) (effect (c .instruction) .flow) address →
       Callee image r address k → cell ≡ k + 1
   call-cell (calls.none absent) k d to = absurd (absent _ d)
-  call-cell (calls.calls d′ to′) k d to = omega (arith, calls.one-callee layout (omega arith) to′ (rw (calls.one-call d d′) at to))
+  call-cell (calls.calls d′ to′) k d to = omega (arith, one-callee image layout (omega arith) to′ (rw (calls.one-call d d′) at to))
   call-cell (calls.nowhere d′ none) k d to = absurd (none k (rw (calls.one-call d d′) at to))
 
   used-uses : {v : ℕ} → Used v → cells.Uses x needs bias held o v
   unfolding after
   used-uses before = cells.before deep
   used-uses behind = cells.behind {v = after (effect (c .instruction)) (depth o)} (omega (arith, c .pop, c .push, rules .pops-enough))
-  used-uses (calling {callee = k} d to) = cells.calling {v = depth o + 2 + needIn needs k} k (call-cell call-here k d to) (omega arith)
+  used-uses (calling {callee = k} d to) = cells.calling {v = depth o + 2 + needIn needs k} k (call-cell (calls.call-stored c) k d to) (omega arith)
 
 -- and each of them
 module _ {image : List ℕ} {limits : Limits} {r : ℕ} {x : cells.Routine} (layout : ImageRules image) (inside : r < countOf image)
@@ -77,7 +75,8 @@ module _ {image : List ℕ} {limits : Limits} {r : ℕ} {x : cells.Routine} (lay
   use-uses u =
       let c = filled .cells (u .offset) (u .start) in
       let same = same-found (u .found) (c .found) in
-      used-uses layout inside c depth (rules-found rules (u .start) (c .found)) needs bias held (deep _ (u .start)) (rw (same .0, same .1) at (u .used))
+      used-uses layout inside c depth (rules-found rules (u .start) (c .found)) needs bias held (deep _ (u .start))
+      (rw (same .0, same .1) at (u .used))
 
   pub need-greatest : {need : ℕ} → (o : ℕ) × cells.Start x o × cells.Uses x needs bias held o need →
       ((o v : ℕ) → cells.Start x o → cells.Uses x needs bias held o v → v ≤ need) → Greatest (Use image depth (needIn needs) r) need

@@ -56,7 +56,8 @@ module _ {image : List ℕ} {limits : Limits} {r : ℕ} {x : cells.Routine} {bia
       let s = h .filled .start o (record { low = omega (arith, h .filled .entry); high = omega (arith, h .filled .end); is = l }) in
       lt-ltb _ _ (mark-is s .0) ∙ sym (lt-ltb _ _ l))
       (λ l.
-      let none : getD marks o 0 ≤ 0 = by-cases (decLt 0 (getD marks o 0)) (λ k. absurd (l (h .filled .starts o (exact o low k) .is))) (λ k. omega arith) in
+      let none : getD marks o 0 ≤ 0 =
+      by-cases (decLt 0 (getD marks o 0)) (λ k. absurd (l (h .filled .starts o (exact o low k) .is))) (λ k. omega arith) in
       le-ltb _ _ none ∙ sym (le-ltb 0 (x .starts o) (omega arith)))
 
   counts : count ≡ countBelow (marked marks) (endOf image r)
@@ -74,7 +75,9 @@ module _ {image : List ℕ} {limits : Limits} {r : ℕ} {x : cells.Routine} {bia
         size = m .size;
         outside = unchanged;
         rules = rules;
-        most = need-greatest (h .layout) (h .inside) (h .filled) (depthIn marks) rules needs bias held (λ o s. mark-is s .1) (m .attained) (m .bounds);
+        most =
+            need-greatest (h .layout) (h .inside) (h .filled) (depthIn marks) rules needs bias held (λ o s. mark-is s .1)
+            (m .attained) (m .bounds);
         starts = λ s. mark-is s .0;
         exact = λ o low high some. exact o low some;
         counted = counts;

@@ -1,6 +1,6 @@
 -- 13 and 10 by the cells are 13 and 10 of the code.
 use Prim.Native.Nat.{ℕ, _+_, _-_, _<_, _≤_}
-use mathlib.Core.Path.{_≡_, refl, sym, _∙_}
+use mathlib.Core.Path.{_≡_}
 use mathlib.Core.Logic.{⊎-elim, by-cases}
 use mathlib.Core.Bool.{cond}
 use mathlib.Core.List.{List}
@@ -15,12 +15,14 @@ use Rattle.stm8.specs.declared.Flow.{Flow}
 use Rattle.image.specs.declared.Limits.{Limits}
 use Rattle.image.specs.Image.{baseOf, startOf, endOf}
 use Rattle.rules.specs.Code.{instructionAt, Start, Jumps}
-use Rattle.rules.specs.Refusal.{JumpFault, leaves, inside}
+use Rattle.rules.specs.Refusal.{JumpFault, leaves, inside, jumps}
 use Rattle.rules.proofs.Starts.{same-found}
+use Rattle.rules.proofs.OneNumber.{one-target}
+use Rattle.rules.proofs.RefusalNumbers.{fault-at}
 use Rattle.control_flow.specs.Routine as cells
+use Rattle.control_flow.proofs.Numbers as numbers
 use Rattle.acceptance.specs.Cells.{Filled}
 use Rattle.acceptance.proofs.JumpCells as jump
-use Rattle.acceptance.proofs.Graphs.{jump-of}
 use Rattle.acceptance.proofs.Faults.{Finds}
 
 -- the number of a jump that stays in its routine
@@ -34,8 +36,8 @@ module _ {image : List ℕ} {limits : Limits} {r : ℕ} {x : cells.Routine} (fil
   abbrev JumpCell : ℕ → Flow → ℕ → Type 0
   JumpCell = jump.JumpCell (baseOf image) (startOf image r) (endOf image r)
 
-  stray : {o n cell : ℕ} {i : Instruction} → Start image r o → instructionAt image r o ≡ Found i n → JumpCell (o + n) (effect i .flow) cell →
-      1 ≤ cells.jumpNumber (x .starts) cell → JumpFault image r o (cells.jumpNumber (x .starts) cell)
+  stray : {o n cell : ℕ} {i : Instruction} → Start image r o → instructionAt image r o ≡ Found i n →
+      JumpCell (o + n) (effect i .flow) cell → 1 ≤ cells.jumpNumber (x .starts) cell → JumpFault image r o (cells.jumpNumber (x .starts) cell)
   unfolding cells.jumpNumber
   stray s f (jump.none absent) some = absurd (omega arith)
   stray s f (jump.leaves j out) some = leaves s f j out
@@ -47,25 +49,20 @@ module _ {image : List ℕ} {limits : Limits} {r : ℕ} {x : cells.Routine} (fil
 
   lands : {next cell : ℕ} {flow : Flow} → JumpCell next flow cell → cells.jumpNumber (x .starts) cell ≡ 0 →
       {address : ℕ} → Jumps (baseOf image + next) flow address → (to : ℕ) × (address ≡ baseOf image + to) × Start image r to
-  unfolding cells.jumpNumber
   lands (jump.none absent) pass k = absurd (absent _ k)
-  lands (jump.leaves j out) pass k = absurd (omega arith)
+  lands (jump.leaves j out) pass k = absurd (omega (arith, numbers.jump-lands (x .starts) 65535 pass (omega arith) .0))
   lands (jump.stays {to = to} j low high) pass k =
-      let e = stays-number (x .starts) to (omega (arith, filled .end)) in
-      by-cases (ℕ-discrete (x .starts to) 0)
-      (λ z. absurd (omega (arith, rw (e, eq-eqb _ _ z) at pass)))
-      (λ z. (
-        to,
-        jump.one-target k j,
-        filled .start to (record { low = omega (arith, filled .entry); high = omega (arith, filled .end); is = omega arith }),
-      ))
+      let back : to + 1 - 1 ≡ to = omega arith in
+      let is : 1 ≤ x .starts to = rw back at (numbers.jump-lands (x .starts) (to + 1) pass (omega arith) .1) in
+      (to, one-target k j, filled .start to (record { low = omega (arith, filled .entry); high = omega (arith, filled .end); is = is }))
 
   -- a jump that passes lands on a start
   pub jump-lands : {o n : ℕ} {i : Instruction} → Start image r o → instructionAt image r o ≡ Found i n → cells.jumpCheck x o ≡ 0 →
-      {address : ℕ} → Jumps (baseOf image + (o + n)) (effect i .flow) address → (to : ℕ) × (address ≡ baseOf image + to) × Start image r to
+      {address : ℕ} → Jumps (baseOf image + (o + n)) (effect i .flow) address →
+      (to : ℕ) × (address ≡ baseOf image + to) × Start image r to
   jump-lands {o} s f pass j =
       let same = same-found f (filled .cells o s .found) in
-      lands (jump-of filled s) pass (rw (same .0, same .1) at j)
+      lands (jump.jump-stored (filled .cells o s)) pass (rw (same .0, same .1) at j)
 
   no-stray : {o n : ℕ} → JumpFault image r o n → cells.jumpCheck x o ≡ 0 → ⊥
   no-stray (leaves s f j out) pass =
@@ -77,14 +74,13 @@ module _ {image : List ℕ} {limits : Limits} {r : ℕ} {x : cells.Routine} (fil
       let there : to ≡ l .0 = omega (arith, l .1) in
       none (rw there (l .2))
 
-  stray-start : {o n : ℕ} → JumpFault image r o n → Start image r o
-  stray-start (leaves s f j out) = s
-  stray-start (inside s f j low high none) = s
-
   pub strays : Finds x (cells.jumpCheck x) (JumpFault image r)
   strays =
       record {
-        finds = λ o s some. let t = filled .start o s in stray t (filled .cells o t .found) (jump-of filled t) some;
-        start = λ o n a. filled .starts o (stray-start a);
+        finds = λ o s some.
+            let t = filled .start o s in
+            let c = filled .cells o t in
+            stray t (c .found) (jump.jump-stored c) some;
+        start = λ o n a. filled .starts o (fault-at limits jumps o n a .start);
         fails = λ o n a. no-stray a;
       }

@@ -31,7 +31,7 @@ code-number (cut s f) = rw f
 code-number (off s f t past) = rw f
 
 -- a jump goes to one address, so it does not both leave its routine and stay in it
-one-target : {next a b : ℕ} {flow : Flow} → Jumps next flow a → Jumps next flow b → a ≡ b
+pub one-target : {next a b : ℕ} {flow : Flow} → Jumps next flow a → Jumps next flow b → a ≡ b
 one-target branches branches = refl
 one-target always always = refl
 

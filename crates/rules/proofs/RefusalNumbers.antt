@@ -24,7 +24,7 @@ stands n listed s =
     let ends = and-eq-true-iff (leb 6 n) (leb n 15) .0 listed in
     record { least = leb-true _ _ (ends .0); most = leb-true _ _ (ends .1); start = s }
 
-fault-at : {image : List ℕ} (limits : Limits) {r : ℕ} (phase : Phase) (o n : ℕ) → Fault image limits r phase o n → FaultAt image r o n
+pub fault-at : {image : List ℕ} (limits : Limits) {r : ℕ} (phase : Phase) (o n : ℕ) → Fault image limits r phase o n → FaultAt image r o n
 fault-at limits codes o n (outside s f) = stands 8 refl s
 fault-at limits codes o n (cut s f) = stands 9 refl s
 fault-at limits codes o n (off s f t past) = stands 15 refl s
