@@ -1,4 +1,3 @@
-pub mod Try
 pub mod Listing
 pub mod StartList
 pub mod Decoding

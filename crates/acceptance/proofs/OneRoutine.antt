@@ -102,15 +102,3 @@ module _ {image : List ℕ} {limits : Limits} {r : ℕ} {x : cells.Routine} (lay
       (here (first-lowest (depth-faults (explored landed all bias held holds)) f))))))
   filled-checked clear before (flow.passing landed all bias held holds passes m) =
       passed (routine-passed (explored landed all bias held holds) passes m clear before)
-
--- by its number a routine is refused or passes
-module _ {image : List ℕ} {limits : Limits} {needs given : List ℕ} {r : ℕ} where
-  pub checked-refused : {number at need count : ℕ} {marks : List ℕ} → RoutineChecked image limits needs r given number at marks need count →
-      (number ≡ 0 → ⊥) → refusal.RoutineRefusal image limits r number at
-  checked-refused (refused some refusal) not = refusal
-  checked-refused (passed p) not = absurd (not (omega arith))
-
-  pub checked-passed : {number at need count : ℕ} {marks : List ℕ} → RoutineChecked image limits needs r given number at marks need count →
-      number ≡ 0 → RoutinePassed image limits needs r given marks need count
-  checked-passed (refused some refusal) none = absurd (omega arith)
-  checked-passed (passed p) none = p
