@@ -102,14 +102,10 @@ module _ (image : List ℕ) (limits : Limits) (marks : List ℕ) where
       checked image limits marks ≡ (Accepted (reportedNeed image need) count, after)
   kept rules enough counted left past = outcome-checked (acceptance-kept rules enough counted left past)
 
--- Exactly one of the two holds for an image and limits that pass 1 to 4: the rules, or some refusal. (At most one refusal does: `one-refusal` in
--- rules/proofs/OneRefusal.antt.)
-module _ (image : List ℕ) (limits : Limits) where
-  pub rules-or-refusal : LimitsRules limits → ImageRules image →
-      ((depth : ℕ → ℕ) × (need : ℕ → ℕ) × Rules image limits depth need) ⊎ ((n : ℕ) × (o : ℕ) × Refusal image limits n o)
-  rules-or-refusal areas layout =
-      let enough : List ℕ = replicate (sizeOf image) 0 in
-      rules-or-refused areas layout (omega (arith, length-replicate {A = ℕ} (sizeOf image) 0)) (checked-outcome image limits enough)
-
-  pub not-both : {depth need : ℕ → ℕ} {n o : ℕ} → Rules image limits depth need → Refusal image limits n o → ⊥
-  not-both rules x = rules-stand rules x
+-- For an image and limits that pass 1 to 4 the rules hold or some refusal does. (Not both: `rules-stand`; and at most one refusal: `one-refusal`,
+-- in rules/proofs.)
+pub rules-or-refusal : (image : List ℕ) (limits : Limits) → LimitsRules limits → ImageRules image →
+    ((depth : ℕ → ℕ) × (need : ℕ → ℕ) × Rules image limits depth need) ⊎ ((n : ℕ) × (o : ℕ) × Refusal image limits n o)
+rules-or-refusal image limits areas layout =
+    let marks : List ℕ = replicate (sizeOf image) 0 in
+    rules-or-refused areas layout (omega (arith, length-replicate {A = ℕ} (sizeOf image) 0)) (checked-outcome image limits marks)
