@@ -3,9 +3,11 @@ use Prim.Native.Nat.{ℕ, zero, suc, _+_, _-_, _<_, _≤_}
 use mathlib.Core.Path.{_≡_, refl}
 use mathlib.Core.Logic.{by-cases}
 use mathlib.Core.List.{List}
-use native.Mathlib.Decide.{ℕ-discrete, decLt}
+use native.Mathlib.Decide.{ℕ-discrete}
 use native.Mathlib.Omega.{arith}
-use borrow.Author.Tests.{eq-eqb, ne-eqb, lt-ltb, le-ltb}
+use lib.Dec.{eqb, ltb}
+use borrow.Author.Tests.{eqb-true, eqb-false, ltb-true, ltb-false, le-ltb}
+use Rattle.numbers.proofs.Checking.{by-test}
 use Rattle.stm8.specs.Effects.{effect}
 use Rattle.stm8.specs.declared.Flow.{Flow}
 use Rattle.stm8.specs.declared.Flow.the-variants.{Next, Branch, Jump, Call, CallRelative, Return}
@@ -26,29 +28,29 @@ module _ (image : List ℕ) (offset : ℕ) where
   unfolding beginning
   beginning-found zero j h = absurd (omega arith)
   beginning-found (suc n) j h =
-      by-cases (ℕ-discrete (startOf image j) offset)
-      (λ e. rw (eq-eqb _ _ e) e)
-      (λ ne. rw (ne-eqb _ _ ne) (beginning-found n (j + 1) (omega (arith, rw (ne-eqb _ _ ne) at h))))
+      by-test (λ k. k < j + suc n → startOf image k ≡ offset) (eqb (startOf image j) offset)
+      (λ t l. eqb-true _ _ t)
+      (λ t l. beginning-found n (j + 1) (omega arith)) h
 
   beginning-some : (n j k : ℕ) → j ≤ k → k < j + n → startOf image k ≡ offset → beginning image offset n j < j + n
   unfolding beginning
   beginning-some zero j k low high e = absurd (omega arith)
   beginning-some (suc n) j k low high e =
-      by-cases (ℕ-discrete (startOf image j) offset)
-      (λ h. rw (eq-eqb _ _ h) (omega arith))
-      (λ ne. rw (ne-eqb _ _ ne)
-      (omega (arith, beginning-some n (j + 1) k (by-cases (ℕ-discrete j k) (λ h. absurd (ne (rw h e))) (λ h. omega arith)) (omega arith) e)))
+      by-test (λ b. b < j + suc n) (eqb (startOf image j) offset)
+      (λ t. omega arith)
+      (λ t.
+      let later : j < k = by-cases (ℕ-discrete j k) (λ h. absurd (eqb-false (startOf image j) offset t (rw h e))) (λ h. omega arith) in
+      omega (arith, beginning-some n (j + 1) k (omega arith) (omega arith) e))
 
 module _ (image : List ℕ) (r : ℕ) where
   callee-found : (address : ℕ) → callee image r address < r → Callee image r address (callee image r address)
   unfolding callee
   callee-found address h =
-      by-cases (decLt address (baseOf image))
-      (λ l. absurd (omega (arith, rw (lt-ltb _ _ l) at h)))
-      (λ l.
-      let e = le-ltb address (baseOf image) (omega arith) in
-      let below : beginning image (address - baseOf image) r 0 < r = rw e at h in
-      rw e (record { earlier = omega arith; target = omega (arith, beginning-found image (address - baseOf image) r 0 (omega arith)) }))
+      by-test (λ k. k < r → Callee image r address k) (ltb address (baseOf image))
+      (λ t l. absurd (omega arith))
+      (λ t l.
+      let at = beginning-found image (address - baseOf image) r 0 (omega arith) in
+      record { earlier = l; target = omega (arith, ltb-false address (baseOf image) t) }) h
 
   callee-earlier : (address k : ℕ) → Callee image r address k → callee image r address < r
   unfolding callee
@@ -65,12 +67,10 @@ module _ (image : List ℕ) (r : ℕ) where
 
   calling : {next address : ℕ} {flow : Flow} → Calls (baseOf image + next) flow address → CallCell next flow (calleeCell image r address)
   unfolding calleeCell
-  calling {address = address} c =
-      by-cases (decLt (callee image r address) r)
-      (λ l. rw (lt-ltb _ _ l) (calls c (callee-found address l)))
-      (λ l.
-      let none : r ≤ callee image r address = omega arith in
-      rw (le-ltb _ _ none) (nowhere c (λ k e. omega (arith, callee-earlier address k e))))
+  calling {next} {address} {flow} c =
+      by-test (CallCell next flow) (ltb (callee image r address) r)
+      (λ t. calls c (callee-found address (ltb-true _ _ t)))
+      (λ t. nowhere c (λ k e. omega (arith, ltb-false (callee image r address) r t, callee-earlier address k e)))
 
   pub call-cell : (next : ℕ) (flow : Flow) → CallCell next flow (callCell image r next flow)
   call-cell next Next = none (λ a. elim [ ])

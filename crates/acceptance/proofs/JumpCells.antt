@@ -1,12 +1,13 @@
 -- What the cells of a fall and of a jump say of where control goes.
 use Prim.Native.Nat.{ℕ, _+_, _-_, _<_, _≤_}
 use mathlib.Core.Path.{_≡_, refl}
-use mathlib.Core.Logic.{_↔_, _⊎_, inl, inr, by-cases}
+use mathlib.Core.Logic.{_↔_, _⊎_, inl, inr}
 use mathlib.Core.Bool.{Bool, true, false, cond}
 use mathlib.Core.List.{List}
-use native.Mathlib.Decide.{decLt}
 use native.Mathlib.Omega.{arith}
-use borrow.Author.Tests.{lt-ltb, le-ltb}
+use lib.Dec.{ltb}
+use borrow.Author.Tests.{ltb-true, ltb-false}
+use Rattle.numbers.proofs.Checking.{by-test}
 use Rattle.stm8.specs.Effects.{relative, effect}
 use Rattle.stm8.specs.declared.Flow.{Flow}
 use Rattle.stm8.specs.declared.Flow.the-variants.{Next, Branch, Jump, Call, CallRelative, Return}
@@ -30,15 +31,13 @@ module _ (base start end : ℕ) where
   target-cell : (address : ℕ) → Target address (targetCell base start end address)
   unfolding targetCell
   target-cell address =
-      by-cases (decLt address (base + start))
-      (λ l. rw (lt-ltb _ _ l) (beyond (inl l)))
-      (λ l.
-      let low : base + start ≤ address = omega arith in
-      by-cases (decLt address (base + end))
-      (λ k. rw (le-ltb _ _ low, lt-ltb _ _ k) (within {to = address - base} (omega arith) (omega arith) (omega arith)))
-      (λ k.
-      let high : base + end ≤ address = omega arith in
-      rw (le-ltb _ _ low, le-ltb _ _ high) (beyond (inr high))))
+      by-test (Target address) (ltb address (base + start))
+      (λ t. beyond (inl (ltb-true _ _ t)))
+      (λ t.
+      let low = ltb-false address (base + start) t in
+      by-test (Target address) (ltb address (base + end))
+      (λ u. let high = ltb-true address (base + end) u in within {to = address - base} (omega arith) (omega arith) (omega arith))
+      (λ u. beyond (inr (ltb-false _ _ u))))
 
   -- there is no jump, it stays in the routine, or it leaves it
   pub data JumpCell (next : ℕ) (flow : Flow) : ℕ → Type 0 where

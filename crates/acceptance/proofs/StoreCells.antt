@@ -1,11 +1,12 @@
 -- A store's cell is the least depth at which the store is allowed.
 use Prim.Native.Nat.{ℕ, _≤_}
-use mathlib.Core.Path.{_≡_, refl}
+use mathlib.Core.Path.{sym, _∙_}
 use mathlib.Core.Logic.{_↔_, by-cases}
-use mathlib.Core.Bool.{Bool, true, false, cond}
+use mathlib.Core.Bool.{false≢true}
 use native.Mathlib.Decide.{ℕ-discrete}
 use native.Mathlib.Omega.{arith}
 use borrow.Author.Tests.{eq-eqb, ne-eqb}
+use Rattle.numbers.proofs.Checking.{by-test}
 use Rattle.stm8.specs.Effects.{bytesWide}
 use Rattle.stm8.specs.declared.Place.{Place}
 use Rattle.stm8.specs.declared.Place.the-variants.{Nowhere, Direct, OnStack, Pushed}
@@ -20,17 +21,10 @@ use Rattle.acceptance.specs.Cells.{storeCell}
 module _ (limits : Limits) (depth : ℕ) (small : depth ≤ 255) where
   direct-cell : (address : ℕ) (w : Width) → (storeCell limits (Direct address w) ≤ depth) ↔ StoreRules limits depth (Direct address w)
   unfolding storeCell
-  direct-cell address w = go (granted limits address (bytesWide w)) refl
-    where
-      go : (t : Bool) → granted limits address (bytesWide w) ≡ t → (cond t 0 256 ≤ depth) ↔ StoreRules limits depth (Direct address w)
-      go true e = (λ h. granted-within limits address (bytesWide w) e, λ h. omega arith)
-      go false e = (
-        λ h. absurd (omega arith),
-        λ h.
-            let t = within-granted limits address (bytesWide w) (wide-some w) h in
-            let z : _≡_ {A = ℕ} 0 1 = cc in
-            absurd (omega arith),
-      )
+  direct-cell address w =
+      by-test (λ n. (n ≤ depth) ↔ StoreRules limits depth (Direct address w)) (granted limits address (bytesWide w))
+      (λ t. (λ h. granted-within limits address (bytesWide w) t, λ h. omega arith))
+      (λ t. (λ h. absurd (omega arith), λ h. absurd (false≢true (sym t ∙ within-granted limits address (bytesWide w) (wide-some w) h))))
 
   pub store-cell : (place : Place) → (storeCell limits place ≤ depth) ↔ StoreRules limits depth place
   unfolding storeCell

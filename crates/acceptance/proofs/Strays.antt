@@ -1,13 +1,13 @@
 -- 13 and 10 by the cells are 13 and 10 of the code.
 use Prim.Native.Nat.{ℕ, _+_, _-_, _<_, _≤_}
 use mathlib.Core.Path.{_≡_}
-use mathlib.Core.Logic.{⊎-elim, by-cases}
+use mathlib.Core.Logic.{⊎-elim}
 use mathlib.Core.Bool.{cond}
 use mathlib.Core.List.{List}
-use native.Mathlib.Decide.{ℕ-discrete}
 use native.Mathlib.Omega.{arith}
 use lib.Dec.{eqb}
-use borrow.Author.Tests.{le-ltb, eq-eqb, ne-eqb}
+use borrow.Author.Tests.{eqb-true, le-ltb, ne-eqb}
+use Rattle.numbers.proofs.Checking.{by-test}
 use Rattle.stm8.specs.Effects.{effect}
 use Rattle.stm8.specs.declared.Instruction.{Instruction}
 use Rattle.stm8.specs.declared.Decoded.the-variants.{Found}
@@ -39,13 +39,13 @@ module _ {image : List ℕ} {limits : Limits} {r : ℕ} {x : cells.Routine} (fil
   stray : {o n cell : ℕ} {i : Instruction} → Start image r o → instructionAt image r o ≡ Found i n →
       JumpCell (o + n) (effect i .flow) cell → 1 ≤ cells.jumpNumber (x .starts) cell → JumpFault image r o (cells.jumpNumber (x .starts) cell)
   unfolding cells.jumpNumber
-  stray s f (jump.none absent) some = absurd (omega arith)
-  stray s f (jump.leaves j out) some = leaves s f j out
-  stray s f (jump.stays {to = to} j low high) some =
-      let e = stays-number (x .starts) to (omega (arith, filled .end)) in
-      by-cases (ℕ-discrete (x .starts to) 0)
-      (λ z. rw (e, eq-eqb _ _ z) (inside s f j low high (λ t. omega (arith, filled .starts to t .is))))
-      (λ z. absurd (omega (arith, rw (e, ne-eqb _ _ z) at some)))
+  stray s f (jump.none absent) = λ some. absurd (omega arith)
+  stray s f (jump.leaves j out) = λ some. leaves s f j out
+  stray {o} s f (jump.stays {to = to} j low high) =
+      rw (stays-number (x .starts) to (omega (arith, filled .end)))
+      (by-test (λ n. 1 ≤ n → JumpFault image r o n) (eqb (x .starts to) 0)
+      (λ t some. let none = eqb-true (x .starts to) 0 t in inside s f j low high (λ u. omega (arith, filled .starts to u .is)))
+      (λ t some. absurd (omega arith)))
 
   lands : {next cell : ℕ} {flow : Flow} → JumpCell next flow cell → cells.jumpNumber (x .starts) cell ≡ 0 →
       {address : ℕ} → Jumps (baseOf image + next) flow address → (to : ℕ) × (address ≡ baseOf image + to) × Start image r to
