@@ -21,6 +21,9 @@ pub tested-passes : {x : Routine} {check : ℕ → ℕ} {number at : ℕ} → Te
 tested-passes (fails f) none = absurd (omega (arith, f .some))
 tested-passes (passes p) none = p
 
+pub tested-none : {x : Routine} {check : ℕ → ℕ} {number at : ℕ} → number ≡ 0 → Passes x check → Tested x check number at
+tested-none none p = rw none (passes p)
+
 module _ {x : Routine} (formed : WellFormed x) {before : List ℕ} (clear : (o : ℕ) → Start x o → getD before o 0 ≡ 0) where
   pub explorable : {stack : List ℕ} → length before ≡ 4096 → length stack ≡ 4096 → Explorable (x .graph) before stack
   explorable size slots =

@@ -7,6 +7,7 @@ ghost use Rattle.control_flow.specs.Routine.{routine, depthNumber, depth
 ghost use Rattle.control_flow.specs.Outcome.{Measured};
 ghost use Rattle.control_flow.specs.Exploring.{middle, Tested};
 ghost use Rattle.control_flow.specs.Measuring.{callUse, greatestUse, DepthStep, Measurable};
+use crate::exploring::wide;
 use numbers::checks::both;
 use numbers::checks::differ;
 use numbers::checks::first;
@@ -56,7 +57,7 @@ fn call_use(depth: usize, call: usize, needs: &[u16; 32]) -> usize
         return 0;
     }
     let place = call - 1;
-    depth + 2 + needs[place] as usize
+    depth + 2 + wide(needs[place])
 }
 
 // The stack bytes that an instruction has the routine use.

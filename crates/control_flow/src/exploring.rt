@@ -76,9 +76,10 @@ fn visit(
     follow(jumps[o], depth, depths, stack, fallen)
 }
 
-// An offset as a number to index with.
-fn wide(x: u16) -> usize
+// A cell as a number to index and to reckon with. It is a function so that its contract tells callers the bound.
+pub(crate) fn wide(x: u16) -> usize
     ensures { λ r. ⌜ r ≡ x ⌝ }
+    ensures { λ r. ⌜ r ≤ 65535 ⌝ }
 {
     x as usize
 }

@@ -35,20 +35,20 @@ visit-requires : tie.Need-visit-requires Inv-loop μ-loop
 visit-requires c κs =
     let t = c .before .before .before .before .before in
     let l = t .before .before in
-    ready (l .loop .inv) (l .before .pre .inside) (t .if1 .taken) _ (sym (c .before .before .wide .ensures))
+    ready (l .loop .inv) (l .before .pre .inside) (t .if1 .taken) _ (sym (c .before .before .wide .ensures .0))
 
 loop-less : tie.Need-loop-less Inv-loop μ-loop
 loop-less c =
     let t = c .before .before .before .before .before .before in
     let l = t .before .before in
-    visit-less (l .loop .inv) (l .before .pre .inside) (t .if1 .taken) _ (sym (c .before .before .before .wide .ensures))
+    visit-less (l .loop .inv) (l .before .pre .inside) (t .if1 .taken) _ (sym (c .before .before .before .wide .ensures .0))
     (c .visit .ensures (l .before .args .entry))
 
 loop-again : tie.Need-loop-again Inv-loop μ-loop
 loop-again c =
     let t = c .before .before .before .before .before .before in
     let l = t .before .before in
-    visit-keeps (l .loop .inv) (l .before .pre .inside) (t .if1 .taken) _ (sym (c .before .before .before .wide .ensures))
+    visit-keeps (l .loop .inv) (l .before .pre .inside) (t .if1 .taken) _ (sym (c .before .before .before .wide .ensures .0))
     (c .visit .ensures (l .before .args .entry))
 
 returns : tie.Need-returns Inv-loop μ-loop

@@ -1,54 +1,63 @@
+-- `control_flow::jumps::check_jumps` meets its contract. The loop's invariant: the jumps of the starts passed land on starts.
+use Prim.Native.Nat.{ℕ, _-_, _≤_, _<_}
+use mathlib.Core.Path.{_≡_, sym, _∙_}
+use mathlib.Core.Logic.{⊎-elim}
+use mathlib.Core.List.{List}
+use native.Mathlib.Omega.{arith}
+use borrow.Author.Needs.{needs}
+use lib.ListN.{getD}
+use denote.Ref.{now}
+use Rattle.control_flow.specs.Graph.{cells}
+use Rattle.control_flow.specs.Routine.{jumpNumber}
+use Rattle.control_flow.specs.Exploring.{fails, passes}
+use Rattle.control_flow.proofs.Rising.{Below, none-below, one-more}
 use Rattle.control_flow.proofs.jumps.check_jumps.Statement.{statement}
 use Rattle.control_flow.proofs.jumps.check_jumps.Tie as tie
-use Rattle.control_flow.proofs.jumps.check_jumps.Reads as reads
-use Rattle.control_flow.proofs.jumps.check_jumps.Lts as lts
-use Rattle.control_flow.proofs.jumps.jump_number.Reads as jump-number-reads
+
+abbrev Lands : List ℕ → List ℕ → ℕ → Type 0
+Lands starts jumps o = jumpNumber (cells starts) (getD jumps o 0) ≡ 0
 
 abbrev Inv-loop : tie.InvT-loop
-Inv-loop entry end starts jumps o₀ o = ?
+Inv-loop entry end starts jumps o₀ o = (entry ≤ o) × (o ≤ end) × Below entry (cells starts) (Lands starts jumps) o
 
 abbrev μ-loop : tie.MeasureT-loop
-μ-loop entry end starts jumps o₀ o = ?
+μ-loop entry end starts jumps o₀ o = end - o
 
--- src/jumps.rt:42:5
-loop-holds : tie.Need-loop-holds Inv-loop μ-loop
-loop-holds c = ?
-
--- src/jumps.rt:43:12
-element-copy-out-if1 : tie.Need-element-copy-out-if1 Inv-loop μ-loop
-element-copy-out-if1 c = ?
-
--- src/jumps.rt:44:46
-mul-jump-number : tie.Need-mul-jump-number Inv-loop μ-loop
-mul-jump-number c = ?
-
--- src/jumps.rt:44:46
-element-copy-out-jump-number : tie.Need-element-copy-out-jump-number Inv-loop μ-loop
-element-copy-out-jump-number c = ?
-
--- src/jumps.rt:44:17
-jump-number-requires : tie.Need-jump-number-requires Inv-loop μ-loop
-jump-number-requires c κs = ?
-
--- src/jumps.rt:46:17
 returns : tie.Need-returns Inv-loop μ-loop
-returns c = ?
+returns c =
+    let n = c .before in
+    let i = n .before .before in
+    let t = i .before .before in
+    let l = t .before .loop in (
+      λ falls pops pushes stores calls.
+          fails
+          (record {
+            start = record { low = l .inv .0; high = t .loop-test .taken; is = omega (arith, i .if1 .taken) };
+            is = n .jump-number .ensures;
+            some = omega (arith, c .if2 .taken);
+            lower = λ o low s. l .inv .2 o (s .low) low (s .is);
+          }),
+      omega (arith, t .loop-test .taken),
+    )
 
--- src/jumps.rt:49:9
-add-o : tie.Need-add-o Inv-loop μ-loop
-add-o c = ?
+lands-here : (c : tie.Joined1 Inv-loop μ-loop) →
+    let l = c .before .before .before in
+    1 ≤ getD (now (l .before .args .starts)) (l .loop .o) 0 → Lands (now (l .before .args .starts)) (now (l .before .args .jumps)) (l .loop .o)
+lands-here c is = ⊎-elim (λ w. sym (w .2 .ensures) ∙ w .3 .left) (λ w. absurd (omega arith)) (c .if1 .came)
 
--- src/jumps.rt:42:5
-loop-less : tie.Need-loop-less Inv-loop μ-loop
-loop-less c = ?
-
--- src/jumps.rt:42:5
 loop-again : tie.Need-loop-again Inv-loop μ-loop
-loop-again c = ?
+loop-again c =
+    let l = c .before .before .before in
+    let a = l .before .args in
+    (omega arith, omega arith, one-more (a .entry) (cells (now (a .starts))) (Lands (now (a .starts)) (now (a .jumps))) (l .loop .o) (l .loop .inv .2) (lands-here c))
 
--- src/jumps.rt:30:1
+below : (c : tie.In-loop Inv-loop μ-loop) → c .before .loop .o < 4096
+below c = omega (arith, c .loop-test .taken, c .before .before .pre .1)
+
 returns-2 : tie.Need-returns-2 Inv-loop μ-loop
-returns-2 c = ?
+returns-2 c =
+    let l = c .before .loop in
+    (λ falls pops pushes stores calls. passes (λ o s. l .inv .2 o (s .low) (omega (arith, s .high, c .loop-test .left)) (s .is)), omega arith)
 
 pub check-jumps-spec : {M : Type 1} → statement M
 check-jumps-spec =
@@ -56,13 +65,13 @@ check-jumps-spec =
     (tie.spec
     Inv-loop
     μ-loop
-    loop-holds
-    element-copy-out-if1
-    mul-jump-number
-    element-copy-out-jump-number
-    jump-number-requires
+    (λ c. (omega arith, omega arith, none-below _ _ _))
+    (λ c. omega arith)
+    (λ c. omega arith)
+    (λ c. omega arith)
+    (λ c κs. search needs)
     returns
-    add-o
-    loop-less
+    (λ c. omega arith)
+    (λ c. omega arith)
     loop-again
     returns-2)

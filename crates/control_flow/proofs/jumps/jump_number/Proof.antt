@@ -1,38 +1,25 @@
+-- `control_flow::jumps::jump_number` meets its contract.
 use borrow.Author.Needs.{needs}
+use borrow.Author.Tests.{eq-eqb, ne-eqb, lt-ltb, le-ltb}
+use Rattle.control_flow.specs.Routine.{jumpNumber}
 use Rattle.control_flow.proofs.jumps.jump_number.Statement.{statement}
 use Rattle.control_flow.proofs.jumps.jump_number.Tie as tie
-use Rattle.control_flow.proofs.jumps.jump_number.Reads as reads
-use Rattle.control_flow.proofs.jumps.jump_number.Lts as lts
 
--- src/jumps.rt:20:9
 returns : tie.Need-returns
-returns c = ?
+unfolding jumpNumber
+returns c = rw (eq-eqb _ _ (c .if1 .taken))
 
--- src/jumps.rt:23:9
 returns-2 : tie.Need-returns-2
-returns-2 c = ?
+unfolding jumpNumber
+returns-2 c = rw (ne-eqb _ _ (c .before .if1 .left), lt-ltb _ _ (c .if2 .taken))
 
--- src/jumps.rt:25:19
-sub-target : tie.Need-sub-target
-sub-target c = search needs
-
--- src/jumps.rt:25:18
-cast-target : tie.Need-cast-target
-cast-target c = search needs
-
--- src/jumps.rt:26:8
-element-copy-out-if3 : tie.Need-element-copy-out-if3
-element-copy-out-if3 c = search needs
-
--- src/jumps.rt:16:1
 returns-3 : tie.Need-returns-3
-returns-3 c = ?
+unfolding jumpNumber
+returns-3 c = rw (ne-eqb _ _ (c .before .before .before .if1 .left), le-ltb _ _ (c .before .before .if2 .left), eq-eqb _ _ (c .if3 .taken))
 
--- src/jumps.rt:16:1
 returns-4 : tie.Need-returns-4
-returns-4 c = ?
+unfolding jumpNumber
+returns-4 c = rw (ne-eqb _ _ (c .before .before .before .if1 .left), le-ltb _ _ (c .before .before .if2 .left), ne-eqb _ _ (c .if3 .left))
 
 pub jump-number-spec : {M : Type 1} → statement M
-jump-number-spec =
-    tie.close
-    (tie.spec returns returns-2 sub-target cast-target element-copy-out-if3 returns-3 returns-4)
+jump-number-spec = tie.close (tie.spec returns returns-2 (λ c. search needs) (λ c. search needs) (λ c. search needs) returns-3 returns-4)
