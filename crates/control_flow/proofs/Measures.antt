@@ -137,3 +137,15 @@ module _ {x : Routine} (needs : List ℕ) {bias : ℕ} {held : ℕ → ℕ} {giv
             others = λ o. by-cases (ℕ-discrete o at) (λ here. inl (rw here (start-here is)))
                 (λ away. ⊎-elim inl (λ e. inr (getD-set-other marks at o (held at - bias + 1) 0 away ∙ e)) (m .others o));
           }
+
+      pub step-on : {number at′ need′ count′ : ℕ} {marks′ : List ℕ} → DepthStep x needs bias held marks at need count number at′ marks′ need′ count′ →
+          number ≡ 0 → at′ ≡ at + 1
+      step-on (skips none) z = refl
+      step-on (refuses is e more) z = absurd (omega arith)
+      step-on (measures is p) z = refl
+
+      pub step-inside : {number at′ need′ count′ : ℕ} {marks′ : List ℕ} → DepthStep x needs bias held marks at need count number at′ marks′ need′ count′ →
+          (at′ ≤ x .end) × (count′ ≤ x .end)
+      step-inside (skips none) = (omega arith, omega (arith, count-low))
+      step-inside (refuses is e more) = (omega arith, omega (arith, count-low))
+      step-inside (measures is p) = (omega arith, omega (arith, count-low))
