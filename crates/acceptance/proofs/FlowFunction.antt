@@ -18,20 +18,23 @@ use Rattle.image.proofs.Layouts.{begins-before-end}
 use Rattle.rules.specs.Code.{begins}
 use Rattle.control_flow.specs.Graph.{cells, Reached}
 use Rattle.control_flow.specs.Routine.{Routine, Start, Decoded, WellFormed, jumpCheck, depthCheck, countFrom}
+use Rattle.control_flow.specs.Measuring.{useAt}
 use Rattle.control_flow.specs.Outcome.{First, Passes, Measured, FlowOutcome, strayed}
 use Rattle.control_flow.specs.Exploring.{Explored, LowestUnknown, fails, passes}
-use Rattle.control_flow.proofs.Numbers.{well-formed, depth-passes}
+use Rattle.control_flow.proofs.Numbers.{well-formed}
+use Rattle.control_flow.proofs.DepthNumbers.{depth-passes}
+use Rattle.control_flow.proofs.Using.{use-most, use-attained}
 use Rattle.control_flow.proofs.Paths.{reached-start}
 use Rattle.control_flow.proofs.Outcomes.{explorable, unreached-at, disagreeing-at, tested-at}
 use Rattle.acceptance.specs.Cells.{Filled}
 use Rattle.acceptance.specs.Starts.{startsOf, cellsOf}
 use Rattle.acceptance.specs.Exploration.{Exploration, mostMoved, biasFor}
-use Rattle.acceptance.specs.Check.{Refusing, nowhere, firstAt, orElse, flowRefusing, biasOf, exploredIn, reachNumber, useAt, markAll}
+use Rattle.acceptance.specs.Check.{Refusing, nowhere, firstAt, orElse, flowRefusing, biasOf, exploredIn, reachNumber, markAll}
 use Rattle.acceptance.proofs.Listing.{In, head, tail, first-none, first-found}
 use Rattle.acceptance.proofs.StartList.{in-none, starts-rise, listed-start, start-listed}
 use Rattle.acceptance.proofs.Graphs.{decoded}
 use Rattle.acceptance.proofs.Exploring.{explored-all}
-use Rattle.acceptance.proofs.Measuring.{greatest, greatest-bounds, greatest-in, use-bounds, use-attained, marks-size, mark-at, mark-or}
+use Rattle.acceptance.proofs.Measuring.{greatest, greatest-bounds, greatest-in, marks-size, mark-at, mark-or}
 
 abbrev zeros : List ℕ
 zeros = replicate 4096 0
@@ -128,25 +131,25 @@ module _ (image : List ℕ) (limits : Limits) (r : ℕ) (layout : ImageRules ima
     module _ (needs given : List ℕ) (counted : ℕ) (long : endOf image r ≤ length given)
         (deep : Passes x (depthCheck x bias (cells depths))) where
       lows : (o : ℕ) → Start x o → (bias ≤ getD depths o 0) × (bias + x .graph .pops o ≤ getD depths o 0 + x .graph .pushes o)
-      lows o s = let p = depth-passes _ _ _ _ _ _ _ _ (deep o s) in (p .low, p .after-low)
+      lows o s = let p = depth-passes _ _ _ _ _ _ _ _ (deep o s) .0 in (p .before-low, p .after-low)
 
       attained : (l : List ℕ) → starts ≡ l → In (startOf image r) l →
-          (o : ℕ) × In o starts × (greatest (useAt x needs bias depths) starts ≡ useAt x needs bias depths o)
+          (o : ℕ) × In o starts × (greatest (useAt x needs bias (cells depths)) starts ≡ useAt x needs bias (cells depths) o)
       attained [] e i = in-none refl i
-      attained (s ∷ rest) e i = rw e (greatest-in (useAt x needs bias depths) s rest)
+      attained (s ∷ rest) e i = rw e (greatest-in (useAt x needs bias (cells depths)) s rest)
 
       measured : Measured x needs bias (cells depths) given (markAll bias depths given starts) counted
-          (greatest (useAt x needs bias depths) starts) (counted + countFrom (x .starts) (startOf image r) (endOf image r - startOf image r))
+          (greatest (useAt x needs bias (cells depths)) starts) (counted + countFrom (x .starts) (startOf image r) (endOf image r - startOf image r))
       measured =
           let g = attained starts refl (start-listed image r some begins) in
           let there = in-start (g .1) in
           let low = lows (g .0) there in
           record {
-            attained = (g .0, there, rw (g .2) (use-attained x needs bias depths (g .0) (low .0) (low .1)));
+            attained = (g .0, there, rw (g .2) (use-attained x needs bias (cells depths) (g .0) (low .0) (low .1)));
             bounds = λ o v s u.
                 let l = lows o s in
-                let b = greatest-bounds (useAt x needs bias depths) (start-in s) in
-                omega (arith, use-bounds x needs bias depths o (l .0) (l .1) u);
+                let b = greatest-bounds (useAt x needs bias (cells depths)) (start-in s) in
+                omega (arith, use-most x needs bias (cells depths) o (l .0) (l .1) v u);
             number = refl;
             size = marks-size bias depths given starts;
             starts = λ o s.
@@ -159,7 +162,7 @@ module _ (image : List ℕ) (limits : Limits) (r : ℕ) (layout : ImageRules ima
   module _ (needs given : List ℕ) (counted : ℕ) (long : endOf image r ≤ length given) where
     Found : Refusing → Type 0
     Found q =
-        FlowOutcome x needs given counted (q .number) (q .at) (markAll bias depths given starts) (greatest (useAt x needs bias depths) starts)
+        FlowOutcome x needs given counted (q .number) (q .at) (markAll bias depths given starts) (greatest (useAt x needs bias (cells depths)) starts)
         (counted + countFrom (x .starts) (startOf image r) (endOf image r - startOf image r))
 
     module _ (landed : Passes x (jumpCheck x)) (reached : firstAt (reachNumber depths) starts .number ≡ 0) where
@@ -223,6 +226,6 @@ module _ (image : List ℕ) (limits : Limits) (r : ℕ) (layout : ImageRules ima
 
     pub flow-outcome :
         FlowOutcome x needs given counted (flowRefusing image limits r .number) (flowRefusing image limits r .at) (markAll bias depths given starts)
-        (greatest (useAt x needs bias depths) starts) (counted + countFrom (x .starts) (startOf image r) (endOf image r - startOf image r))
+        (greatest (useAt x needs bias (cells depths)) starts) (counted + countFrom (x .starts) (startOf image r) (endOf image r - startOf image r))
     unfolding Found
     flow-outcome = flow-found

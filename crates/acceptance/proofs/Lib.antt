@@ -11,7 +11,6 @@ pub mod Graphs
 pub mod Faults
 pub mod CodeFaults
 pub mod Strays
-pub mod DepthNumbers
 pub mod DepthTests
 pub mod DepthFaults
 pub mod RoutineRules

@@ -1,15 +1,13 @@
--- The greatest use of a routine's starts, and the marks that they get.
-use Prim.Native.Nat.{ℕ, zero, suc, _+_, _-_, _<_, _≤_, max}
-use mathlib.Core.Path.{_≡_, refl, sym, ap, _∙_, subst}
+-- The greatest value over a list, and the marks that its offsets get.
+use Prim.Native.Nat.{ℕ, _+_, _-_, _<_, _≤_, max}
+use mathlib.Core.Path.{_≡_, refl, sym, _∙_}
 use mathlib.Core.Logic.{_⊎_, inl, inr, ⊎-elim, by-cases}
 use mathlib.Core.List.{List, [], _∷_, foldr, map}
 use native.Mathlib.Decide.{ℕ-discrete, decLt}
 use native.Mathlib.Omega.{arith}
 use lib.ListN.{length, getD, set, length-set}
 use lib.Seq.{getD-set-same, getD-set-other}
-use Rattle.control_flow.specs.Routine.{Routine, Uses, before, behind, calling}
-use Rattle.acceptance.specs.Passed.{needIn}
-use Rattle.acceptance.specs.Check.{callUse, useAt, markAll}
+use Rattle.acceptance.specs.Check.{markAll}
 use Rattle.acceptance.proofs.Listing.{In, head, tail}
 
 -- the greatest value of a function over a list, 0 where the list is empty
@@ -29,33 +27,6 @@ module _ (f : ℕ → ℕ) where
       by-cases (decLt (f s) (greatest f (t ∷ rest)))
       (λ l. (g .0, tail (g .1), omega (arith, g .2)))
       (λ l. (s, head, omega arith))
-
--- what an instruction uses is one of its uses, and the greatest, where the depth is not below 0 before it and behind it
-module _ (x : Routine) (needs : List ℕ) (bias : ℕ) (depths : List ℕ) (o : ℕ) (low : bias ≤ getD depths o 0)
-    (after : bias + x .graph .pops o ≤ getD depths o 0 + x .graph .pushes o) where
-  pub use-bounds : {v : ℕ} → Uses x needs bias (λ k. getD depths k 0) o v → v ≤ useAt x needs bias depths o
-  use-bounds (before e) = omega arith
-  use-bounds (behind e) = omega arith
-  use-bounds (calling k c e) = let n : x .calls o ≡ suc k = omega arith in rw n (omega arith)
-
-  call-use : (cell : ℕ) → x .calls o ≡ cell → 0 < callUse needs (getD depths o 0 - bias) cell →
-      Uses x needs bias (λ k. getD depths k 0) o (callUse needs (getD depths o 0 - bias) cell)
-  call-use zero c some = absurd (omega arith)
-  call-use (suc k) c some =
-      let v = getD depths o 0 - bias + 2 + needIn needs k in
-      let e : v + bias ≡ getD depths o 0 + 2 + getD needs k 0 = omega arith in
-      calling k (omega arith) e
-
-  pub use-attained : Uses x needs bias (λ k. getD depths k 0) o (useAt x needs bias depths o)
-  use-attained =
-      let d = getD depths o 0 - bias in
-      let a = d + x .graph .pushes o - x .graph .pops o in
-      let c = callUse needs d (x .calls o) in
-      by-cases (decLt (max d a) c)
-      (λ l. let e : max (max d a) c ≡ c = omega arith in rw e (call-use (x .calls o) refl (omega arith)))
-      (λ l. by-cases (decLt d a)
-      (λ m. let e : max (max d a) c ≡ a = omega arith in rw e (behind {v = a} (omega arith)))
-      (λ m. let e : max (max d a) c ≡ d = omega arith in rw e (before {v = d} (omega arith))))
 
 -- the marks of a list's offsets
 module _ (bias : ℕ) (depths marks : List ℕ) where

@@ -14,7 +14,8 @@ use Rattle.rules.specs.Code.{instructionAt}
 use Rattle.rules.specs.declared.Verdict.{Verdict}
 use Rattle.rules.specs.declared.Verdict.the-variants.{Accepted, Refused}
 use Rattle.control_flow.specs.Graph.{cells}
-use Rattle.control_flow.specs.Routine.{Routine, jumpCheck, depthCheck, countFrom}
+use Rattle.control_flow.specs.Routine.{jumpCheck, depthCheck, countFrom}
+use Rattle.control_flow.specs.Measuring.{useAt}
 use Rattle.acceptance.specs.Passed.{needIn}
 use Rattle.acceptance.specs.Starts.{startsOf, codeNumber, cellsOf}
 use Rattle.acceptance.specs.Exploration.{Exploration, biasFor, explored}
@@ -62,19 +63,10 @@ unfoldable pub routineRefusing : List ℕ → Limits → ℕ → Refusing
 routineRefusing image limits r =
     orElse (firstAt (λ o. codeNumber (endOf image r) o (instructionAt image r o)) (startsOf image r)) (flowRefusing image limits r)
 
--- the stack bytes that an instruction has the routine use, at a depth above the bias
-abbrev pub callUse : List ℕ → ℕ → ℕ → ℕ
-callUse needs depth zero = 0
-callUse needs depth (suc k) = depth + 2 + needIn needs k
-
-abbrev pub useAt : Routine → List ℕ → ℕ → List ℕ → ℕ → ℕ
-useAt x needs bias depths o =
-    let depth = getD depths o 0 - bias in
-    max (max depth (depth + x .graph .pushes o - x .graph .pops o)) (callUse needs depth (x .calls o))
-
+-- the greatest number of stack bytes that an instruction has the routine use
 abbrev pub routineNeed : List ℕ → Limits → ℕ → List ℕ → ℕ
 routineNeed image limits r needs =
-    foldr max 0 (map (useAt (cellsOf image limits r) needs (biasOf image limits r) (exploredIn image limits r .depths)) (startsOf image r))
+    foldr max 0 (map (useAt (cellsOf image limits r) needs (biasOf image limits r) (cells (exploredIn image limits r .depths))) (startsOf image r))
 
 -- the state between routines: the first refusal, the needs of the routines that are done, their marks, and how many starts they have
 pub record Sweeping : Type 0 where

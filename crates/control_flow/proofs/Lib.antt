@@ -6,6 +6,7 @@ pub mod Visits
 pub mod Paths
 pub mod Ends
 pub mod Numbers
+pub mod DepthNumbers
 pub mod Outcomes
 pub mod Rising
 pub mod Using

@@ -21,6 +21,7 @@ use Rattle.image.specs.Access.{granted}
 use Rattle.rules.specs.Depth as Depth
 use Rattle.rules.specs.Code as Code
 use Rattle.control_flow.specs.Routine as Routine
+use Rattle.control_flow.specs.Measuring as Measuring
 use Rattle.acceptance.specs.Cells as Cells
 use Rattle.acceptance.specs.Starts as Starts
 use Rattle.acceptance.specs.Exploration as Exploration
@@ -37,7 +38,7 @@ unfolding xor Bits.bit Checks.first Checks.both Checks.under Checks.unless Check
     Image.lengthsOf Image.lengthAt Image.codeAt Image.codeOf Image.sizeOf Image.layoutOf Image.startOf Image.endOf Image.mainOf
     Validation.areaCheck Validation.apartCheck Validation.limitsCheck Validation.markCheck Validation.versionCheck Validation.lengthCheck
     Validation.lengthsCheck Validation.layoutCheck Validation.refusal Validation.validated Depth.popped Depth.pushed Code.instructionAt
-    Routine.jumpNumber Routine.depthNumber Routine.countFrom Cells.targetCell Cells.storeCell Cells.beginning Cells.callee Cells.calleeCell
+    Routine.jumpNumber Routine.depthNumber Routine.countFrom Measuring.callUse Measuring.greatestUse Cells.targetCell Cells.storeCell Cells.beginning Cells.callee Cells.calleeCell
     Starts.startsFrom Starts.startsOf Starts.listed Exploration.exploreFrom Exploration.mostMoved Exploration.biasFor Exploration.explored
     Check.firstAt Check.biasOf Check.exploredIn Check.flowRefusing Check.routineRefusing Check.routinesFrom Check.swept Check.codeChecked
     Check.checked

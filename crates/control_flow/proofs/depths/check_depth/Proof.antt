@@ -1,4 +1,5 @@
 -- `control_flow::depths::check_depth` meets its contract. What the passed checks say of the start's cells keeps every sum and difference in range.
+use Prim.Native.Nat.{_+_, _≤_}
 use mathlib.Core.Path.{sym, _∙_}
 use native.Mathlib.Omega.{arith}
 use borrow.Author.Needs.{needs}
@@ -6,7 +7,7 @@ use denote.Ref.{now}
 use lib.ListN.{getD}
 use Rattle.control_flow.specs.Exploring.{middle}
 use Rattle.control_flow.specs.Measuring.{skips, refuses, measures}
-use Rattle.control_flow.proofs.Numbers.{DepthPasses, depth-passes}
+use Rattle.control_flow.proofs.DepthNumbers.{Inside, depth-passes}
 use Rattle.control_flow.proofs.depths.check_depth.Statement.{statement}
 use Rattle.control_flow.proofs.depths.check_depth.Tie as tie
 
@@ -14,8 +15,9 @@ here : (c : tie.Else2) →
     let i = c .before .before .before .before .before .before .before .before .before in
     let a = i .before .before .before .args in
     let o = a .c .at in
-    DepthPasses middle (getD (now (a .depths)) o 0) (getD (now (a .falls)) o 0) (getD (now (a .jumps)) o 0) (getD (now (a .pops)) o 0)
-    (getD (now (a .pushes)) o 0) (getD (now (a .stores)) o 0) (getD (now (a .calls)) o 0)
+    Inside middle (getD (now (a .depths)) o 0) (getD (now (a .falls)) o 0) (getD (now (a .jumps)) o 0) (getD (now (a .pops)) o 0)
+    (getD (now (a .pushes)) o 0) (getD (now (a .stores)) o 0) (getD (now (a .calls)) o 0) ×
+    (middle + getD (now (a .stores)) o 0 ≤ getD (now (a .depths)) o 0) × (getD (now (a .calls)) o 0 ≤ 32)
 here c = depth-passes _ _ _ _ _ _ _ _ (sym (c .before .depth-number .ensures) ∙ c .if2 .left)
 
 returns-2 : tie.Need-returns-2
@@ -25,7 +27,7 @@ returns-2 c entry end =
     refuses (omega (arith, i .if1 .left)) (n .depth-number .ensures) (omega (arith, c .if2 .taken))
 
 used-requires : tie.Need-used-requires
-used-requires c κs = let h = here c in (omega (arith, h .high), h .calls, omega (arith, h .low, h .after-low))
+used-requires c κs = let h = here c in (omega (arith, h .0 .before-high), h .2, omega (arith, h .0 .before-low, h .0 .after-low))
 
 returns-3 : tie.Need-returns-3
 returns-3 c entry end =
@@ -55,12 +57,12 @@ check-depth-spec =
     (λ c. search needs)
     (λ c κs. search needs)
     returns-2
-    (λ c. omega (arith, here c .low))
-    (λ c. omega (arith, here c .high))
+    (λ c. omega (arith, here c .0 .before-low))
+    (λ c. omega (arith, here c .0 .before-high))
     used-requires
     (λ c κs. search needs)
-    (λ c. omega (arith, here (c .before .before) .high))
-    (λ c. omega (arith, here (c .before .before) .high))
+    (λ c. omega (arith, here (c .before .before) .0 .before-high))
+    (λ c. omega (arith, here (c .before .before) .0 .before-high))
     (λ c. search needs)
     (λ c. search needs)
     (λ c. search needs)
