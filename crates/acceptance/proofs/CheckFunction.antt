@@ -1,13 +1,11 @@
 -- The check as a function gives an outcome that is declared.
-use Prim.Native.Nat.{ℕ, zero, suc, _+_, _-_, _<_, _≤_}
-use mathlib.Core.Path.{_≡_, refl, sym, ap, _∙_, subst}
-use mathlib.Core.Logic.{by-cases}
-use mathlib.Core.Bool.{true, false, cond}
-use mathlib.Core.List.{List, _++_, foldr, map}
-use native.Mathlib.Decide.{decLt}
+use Prim.Native.Nat.{ℕ, zero, suc, _+_, _<_, _≤_}
+use mathlib.Core.Path.{_≡_, refl, ap}
+use mathlib.Core.Bool.{cond}
+use mathlib.Core.List.{List, _++_}
 use native.Mathlib.Omega.{arith}
 use lib.Dec.{eqb, ltb}
-use lib.ListN.{length, getD, set, drop, replicate}
+use lib.ListN.{length, drop}
 use borrow.Author.Tests.{eqb-true, eqb-false, eq-eqb, ne-eqb, ltb-true, ltb-false}
 use Rattle.numbers.proofs.Checking.{by-test}
 use Rattle.image.specs.declared.Limits.{Limits}
@@ -25,9 +23,9 @@ use Rattle.rules.specs.Refusal.{RoutineRefusal}
 use Rattle.rules.specs.Outcome.{Outcome, invalid, few}
 use Rattle.rules.specs.declared.Verdict.{Verdict}
 use Rattle.rules.specs.declared.Verdict.the-variants.{Accepted}
-use Rattle.acceptance.specs.Passed.{needIn, RoutineChecked, refused, passed, RoutinesPassed}
-use Rattle.acceptance.specs.Starts.{startsOf, cellsOf}
-use Rattle.acceptance.specs.Check.{Refusing, nowhere, firstAt, orElse, flowRefusing, routineRefusing, Sweeping, passedBy, routinesFrom, swept, routineNeed}
+use Rattle.acceptance.specs.Passed.{needIn, RoutineChecked, RoutinesPassed}
+use Rattle.acceptance.specs.Starts.{startsOf}
+use Rattle.acceptance.specs.Check.{Refusing, nowhere, firstAt, flowRefusing, routineRefusing, Sweeping, passedBy, routinesFrom, swept, routineNeed}
 use Rattle.acceptance.specs.Check.{refusedCode, codeChecked, validatedChecked, checked}
 use Rattle.acceptance.proofs.Decoding.{codeCheck, code-lowest, filled}
 use Rattle.acceptance.proofs.FlowFunction.{flow-outcome}

@@ -1,6 +1,6 @@
 -- 8, 9 and 15 over the list of starts: the lowest fault, or cells that say what the instructions say.
-use Prim.Native.Nat.{ℕ, _+_, _-_, _<_, _≤_}
-use mathlib.Core.Path.{_≡_, refl, sym, ap, _∙_}
+use Prim.Native.Nat.{ℕ, _+_, _<_, _≤_}
+use mathlib.Core.Path.{_≡_, refl, ap, _∙_}
 use mathlib.Core.Bool.{Bool, true, false, cond}
 use mathlib.Core.List.{List}
 use native.Mathlib.Omega.{arith}
@@ -18,11 +18,10 @@ use Rattle.rules.specs.Depth.{falls}
 use Rattle.rules.specs.Code.{instructionAt, Start}
 use Rattle.rules.specs.Refusal.{CodeFault, outside, cut, off, Lowest}
 use Rattle.rules.proofs.Starts.{same-found, start-low, start-high}
-use Rattle.control_flow.specs.Routine as cells
 use Rattle.acceptance.specs.Cells.{Stored, Filled}
-use Rattle.acceptance.specs.Starts.{startsOf, listed, codeNumber, cellAt, cellsOf}
-use Rattle.acceptance.specs.Check.{Refusing, firstAt}
-use Rattle.acceptance.proofs.Listing.{In, listed-in, in-listed, first-none, first-found}
+use Rattle.acceptance.specs.Starts.{startsOf, codeNumber, cellAt, cellsOf}
+use Rattle.acceptance.specs.Check.{firstAt}
+use Rattle.acceptance.proofs.Listing.{listed-in, in-listed, first-none, first-found}
 use Rattle.acceptance.proofs.StartList.{starts-rise, listed-start, start-listed}
 
 -- a start at which 8, 9 and 15 pass

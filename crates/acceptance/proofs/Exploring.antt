@@ -1,20 +1,18 @@
 -- The exploration of a graph, as a function, finds what an exploration is to find.
 use Prim.Native.Nat.{ℕ, zero, suc, _+_, _-_, _*_, _<_, _≤_}
-use mathlib.Core.Path.{_≡_, refl, sym, ap, _∙_, subst}
+use mathlib.Core.Path.{_≡_, refl}
 use mathlib.Core.Logic.{by-cases}
-use mathlib.Core.Bool.{true}
 use mathlib.Core.List.{List}
 use native.Mathlib.Decide.{ℕ-discrete}
 use native.Mathlib.Omega.{arith}
-use lib.ListN.{length, getD, replicate, length-replicate}
+use lib.ListN.{getD, replicate}
 use borrow.Author.Tests.{eq-eqb, ne-eqb}
 use Rattle.control_flow.specs.Graph.{Graph, Reached}
 use Rattle.control_flow.specs.Exploring.{known, Followed, nowhere, fresh, same, other, Visited, Explorable, Explored}
-use Rattle.control_flow.proofs.Knowing.{known-most}
 use Rattle.control_flow.proofs.Invariant.{Exploring, Nothing, begins}
 use Rattle.control_flow.proofs.Visits.{waited, in-range, visit-keeps, visit-less}
 use Rattle.control_flow.proofs.Ends.{ends}
-use Rattle.acceptance.specs.Exploration.{Exploration, arrived, follow, visit, top, popTop, exploreFrom, explored}
+use Rattle.acceptance.specs.Exploration.{Exploration, follow, visit, top, popTop, exploreFrom, explored}
 
 -- an edge is followed as the laws of an exploration have it
 abbrev FollowedBy : ℕ → ℕ → Exploration → Exploration → Type 0

@@ -1,7 +1,7 @@
 -- The phases after decoding, as a function over the cells of a routine, find what they are to find.
 use Prim.Native.Nat.{ℕ, _+_, _-_, _*_, _<_, _≤_}
-use mathlib.Core.Path.{_≡_, refl, sym, ap, _∙_}
-use mathlib.Core.Logic.{_⊎_, inl, inr, ⊎-elim, ⊎-map, by-cases}
+use mathlib.Core.Path.{_≡_, refl, _∙_}
+use mathlib.Core.Logic.{⊎-map, by-cases}
 use mathlib.Core.Bool.{Bool, true, false, cond}
 use mathlib.Core.List.{List, [], _∷_, map}
 use native.Mathlib.Decide.{ℕ-discrete}
@@ -10,14 +10,14 @@ use lib.Dec.{eqb}
 use lib.ListN.{length, getD, replicate, length-replicate, getD-replicate}
 use borrow.Author.Tests.{eqb-true, eqb-false, eq-eqb, ne-eqb}
 use Rattle.numbers.specs.Folds.{total}
-use Rattle.numbers.proofs.Checking.{by-cond, by-test}
+use Rattle.numbers.proofs.Checking.{by-test}
 use Rattle.image.specs.declared.Limits.{Limits}
 use Rattle.image.specs.Image.{countOf, startOf, endOf}
 use Rattle.image.specs.Rules.{ImageRules}
 use Rattle.image.proofs.Layouts.{begins-before-end}
 use Rattle.rules.specs.Code.{begins}
 use Rattle.control_flow.specs.Graph.{cells, Reached}
-use Rattle.control_flow.specs.Routine.{Routine, Start, Decoded, WellFormed, jumpCheck, depthCheck, countFrom}
+use Rattle.control_flow.specs.Routine.{Routine, Start, WellFormed, jumpCheck, depthCheck, countFrom}
 use Rattle.control_flow.specs.Measuring.{useAt}
 use Rattle.control_flow.specs.Outcome.{First, Passes, Measured, FlowOutcome, strayed}
 use Rattle.control_flow.specs.Exploring.{Explored, LowestUnknown, fails, passes}
@@ -28,7 +28,7 @@ use Rattle.control_flow.proofs.Paths.{reached-start}
 use Rattle.control_flow.proofs.Outcomes.{explorable, unreached-at, disagreeing-at, tested-at}
 use Rattle.acceptance.specs.Cells.{Filled}
 use Rattle.acceptance.specs.Starts.{startsOf, cellsOf}
-use Rattle.acceptance.specs.Exploration.{Exploration, mostMoved, biasFor}
+use Rattle.acceptance.specs.Exploration.{mostMoved, biasFor}
 use Rattle.acceptance.specs.Check.{Refusing, nowhere, firstAt, orElse, flowRefusing, biasOf, exploredIn, reachNumber, markAll}
 use Rattle.acceptance.proofs.Listing.{In, head, tail, first-none, first-found}
 use Rattle.acceptance.proofs.StartList.{in-none, starts-rise, listed-start, start-listed}

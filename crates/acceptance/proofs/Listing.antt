@@ -1,14 +1,14 @@
 -- Lists of offsets that rise, and the first one at which a check fails.
 use Prim.Native.Nat.{ℕ, suc, _<_, _≤_}
-use mathlib.Core.Path.{_≡_, refl, sym, ap, _∙_}
+use mathlib.Core.Path.{_≡_, refl}
 use mathlib.Core.Logic.{by-cases}
-use mathlib.Core.Bool.{Bool, true, false}
+use mathlib.Core.Bool.{true}
 use mathlib.Core.List.{List, [], _∷_}
 use native.Mathlib.Decide.{ℕ-discrete}
 use native.Mathlib.Omega.{arith}
 use lib.Dec.{eqb}
-use borrow.Author.Tests.{eqb-true, eqb-false, eq-eqb, ne-eqb}
-use Rattle.numbers.proofs.Checking.{by-cond, by-test}
+use borrow.Author.Tests.{eq-eqb, ne-eqb}
+use Rattle.numbers.proofs.Checking.{by-test}
 use Rattle.acceptance.specs.Starts.{listed}
 use Rattle.acceptance.specs.Check.{Refusing, firstAt}
 

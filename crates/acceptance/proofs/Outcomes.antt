@@ -1,10 +1,9 @@
 -- The outcome of a check whose image is valid and whose marks are enough: accepted, or refused with 16 or in a routine.
-use Prim.Native.Nat.{ℕ, _+_, _-_, _<_, _≤_}
-use mathlib.Core.Path.{_≡_, sym, ap, _∙_}
+use Prim.Native.Nat.{ℕ, _+_, _<_, _≤_}
+use mathlib.Core.Path.{_≡_, _∙_}
 use mathlib.Core.List.{List, _++_}
 use native.Mathlib.Omega.{arith}
-use lib.ListN.{length, getD, drop, replicate, length-append, length-drop, List·getD-append}
-use lib.Seq.{getD-append-add, getD-drop}
+use lib.ListN.{length, drop, replicate}
 use Rattle.image.specs.declared.Limits.{Limits}
 use Rattle.image.specs.declared.Layout.{Layout}
 use Rattle.image.specs.declared.Validated.the-variants as Validated
@@ -16,7 +15,7 @@ use Rattle.image.proofs.Layouts.{begins-before-end}
 use Rattle.image.proofs.Measuring.{end-inside}
 use Rattle.rules.specs.Depth.{reportedNeed}
 use Rattle.rules.specs.Refusal.{RoutineRefusal, inRoutine, noRoom}
-use Rattle.rules.specs.Acceptance.{Acceptable, AcceptedMarks, PastCode}
+use Rattle.rules.specs.Acceptance.{Acceptable, AcceptedMarks}
 use Rattle.rules.specs.Outcome.{Outcome, refused, accepted}
 use Rattle.rules.specs.declared.Verdict.the-variants.{Accepted, Refused}
 use Rattle.rules.proofs.Starts.{start-high}

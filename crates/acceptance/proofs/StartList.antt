@@ -1,8 +1,7 @@
 -- The list of a routine's starts holds its starts, rising, and nothing else.
 use Prim.Native.Nat.{ℕ, zero, suc, _+_, _-_, _<_, _≤_}
-use mathlib.Core.Path.{_≡_, refl, sym, ap, _∙_, subst}
+use mathlib.Core.Path.{_≡_, refl, ap}
 use mathlib.Core.Logic.{by-cases}
-use mathlib.Core.Bool.{Bool, true, false}
 use mathlib.Core.List.{List, [], _∷_}
 use native.Mathlib.Decide.{ℕ-discrete, decLt}
 use native.Mathlib.Omega.{arith}
@@ -12,7 +11,7 @@ use Rattle.stm8.specs.declared.Decoded.{Decoded}
 use Rattle.stm8.specs.declared.Decoded.the-variants.{Found, Outside, Truncated}
 use Rattle.image.specs.Image.{startOf, endOf}
 use Rattle.rules.specs.Code.{instructionAt, Start, begins, follows}
-use Rattle.rules.proofs.Starts.{same-found, found-inside, start-low}
+use Rattle.rules.proofs.Starts.{same-found, found-inside}
 use Rattle.acceptance.specs.Starts.{bytesOf, startsFrom, startsOf}
 use Rattle.acceptance.proofs.Listing.{In, head, tail, Rising, none, next, rising-from}
 
