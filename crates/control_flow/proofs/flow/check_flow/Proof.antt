@@ -26,7 +26,7 @@ tested c =
 
 lowest : (s : tie.Start) {depths : List ℕ} {o : ℕ} →
     ((falls jumps pops pushes stores calls : List ℕ) →
-      LowestUnknown (routine (s .args .entry) (s .args .end) (now (s .args .starts)) falls jumps pops pushes stores calls) depths o) →
+    LowestUnknown (routine (s .args .entry) (s .args .end) (now (s .args .starts)) falls jumps pops pushes stores calls) depths o) →
     LowestUnknown (x s) depths o
 lowest s w =
     let a = s .args in
