@@ -7,6 +7,7 @@ ghost use Rattle.control_flow.specs.Routine.{routine, depthNumber, depth
 ghost use Rattle.control_flow.specs.Outcome.{Measured};
 ghost use Rattle.control_flow.specs.Exploring.{middle, Tested};
 ghost use Rattle.control_flow.specs.Measuring.{DepthStep, Measurable};
+use crate::exploring::MIDDLE;
 use crate::uses::larger;
 use crate::uses::used;
 use numbers::checks::both;
@@ -31,14 +32,14 @@ fn depth_number(held: u32, falls: u16, jumps: u16, pops: u8, pushes: u8, store: 
     let behind = held + pushes as usize;
     let pops = pops as usize;
     let called = under(32, call as usize, 14);
-    let stored = first(under(held, 1048576 + store as usize, 12), called);
-    let back = both(under(jumps as usize, 1, 11), differ(held, 1048576, 11));
+    let stored = first(under(held, MIDDLE + store as usize, 12), called);
+    let back = both(under(jumps as usize, 1, 11), differ(held, MIDDLE, 11));
     let back = first(both(under(falls as usize, 1, 11), back), stored);
-    let high = first(under(1048831 + pops, behind, 11), back);
-    let low = first(under(behind, 1048576 + pops, 11), high);
+    let high = first(under(MIDDLE + 255 + pops, behind, 11), back);
+    let low = first(under(behind, MIDDLE + pops, 11), high);
     first(
-        under(held, 1048576, 11),
-        first(under(1048831, held, 11), low),
+        under(held, MIDDLE, 11),
+        first(under(MIDDLE + 255, held, 11), low),
     )
 }
 
@@ -85,7 +86,7 @@ fn check_depth(
             count: c.count,
         };
     }
-    let depth = (held - 1048576) as usize;
+    let depth = held as usize - MIDDLE;
     let need = larger(c.need, used(depth, popped, pushed, call, needs));
     marks[o] = (depth + 1) as u16;
     Checked {

@@ -55,8 +55,8 @@ check-depth-spec =
     (λ c. search needs)
     (λ c κs. search needs)
     returns-2
-    (λ c. omega (arith, here c .low))
     (λ c. omega (arith, here c .high))
+    (λ c. omega (arith, here c .low))
     used-requires
     (λ c κs. search needs)
     (λ c. omega (arith, here (c .before .before) .high))
