@@ -74,7 +74,11 @@ module _ {bias most : ℕ} {g : Graph} {before : List ℕ} {Visiting : ℕ → T
         by-cases (ℕ-discrete x t)
         (λ here.
         let n = s .near o reached is in
-        rw here (record { low = omega (arith, n .low, after .moved, after .popped-most, more, new); high = omega (arith, n .high, after .moved, after .pushed-most, more, new) }))
+        rw here
+        (record {
+          low = omega (arith, n .low, after .moved, after .popped-most, more, new);
+          high = omega (arith, n .high, after .moved, after .pushed-most, more, new);
+        }))
         (λ away.
         let n = s .near x r (omega (arith, still x away, k)) in
         record { low = omega (arith, n .low, still x away, more); high = omega (arith, n .high, still x away, more) })
