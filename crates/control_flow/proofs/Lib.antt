@@ -2,6 +2,7 @@ pub mod Knowing
 pub mod Following
 pub mod Invariant
 pub mod Growing
+pub mod Edges
 pub mod Visits
 pub mod Paths
 pub mod Ends

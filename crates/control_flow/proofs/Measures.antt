@@ -9,7 +9,6 @@ use lib.ListN.{length, getD, set, length-set}
 use lib.Seq.{getD-set-same, getD-set-other}
 use Rattle.control_flow.specs.Routine.{Routine, Start, depthCheck, Uses, before, countFrom}
 use Rattle.control_flow.specs.Outcome.{First, Passes, Measured}
-use Rattle.control_flow.specs.Exploring.{Tested, fails, passes}
 use Rattle.control_flow.specs.Measuring.{useAt, DepthStep, skips, refuses, measures, Measurable}
 use Rattle.control_flow.proofs.DepthNumbers.{Inside, depth-passes}
 use Rattle.control_flow.proofs.Rising.{Below, none-below, one-more}

@@ -13,7 +13,7 @@ use Rattle.control_flow.specs.Exploring.{middle, Known, known, DepthAfte
 use Rattle.control_flow.proofs.Knowing.{known-most}
 use Rattle.control_flow.proofs.Following.{Effect, effect}
 use Rattle.control_flow.proofs.Invariant.{Done, Exploring, Nothing}
-use Rattle.control_flow.proofs.Growing.{follow-keeps}
+use Rattle.control_flow.proofs.Edges.{follow-keeps}
 
 -- the top of the stack is taken, and its edges are followed
 module _ {bias most : ℕ} {g : Graph} {before depths stack : List ℕ} {height : ℕ} {agree : Bool}

@@ -1,13 +1,15 @@
 // Depths by the cells of a routine: 11, 12 and 14, the need, the count and the marks.
 ghost use mathlib.Core.Path.{_≡_};
-ghost use Prim.Native.Nat.{ℕ, _+_, _≤_, _<_, max};
+ghost use Prim.Native.Nat.{ℕ, _≤_, _<_};
 ghost use lib.ListN.{length};
 ghost use Rattle.control_flow.specs.Graph.{cells};
 ghost use Rattle.control_flow.specs.Routine.{routine, depthNumber, depthCheck};
 ghost use Rattle.control_flow.specs.Outcome.{Measured};
 ghost use Rattle.control_flow.specs.Exploring.{middle, Tested};
-ghost use Rattle.control_flow.specs.Measuring.{callUse, greatestUse, DepthStep, Measurable};
-use crate::exploring::wide;
+ghost use Rattle.control_flow.specs.Measuring.{DepthStep, Measurable};
+use crate::exploring::MIDDLE;
+use crate::uses::larger;
+use crate::uses::used;
 use numbers::checks::both;
 use numbers::checks::differ;
 use numbers::checks::first;
@@ -22,13 +24,6 @@ pub(crate) struct Checked {
     pub count: usize,
 }
 
-// The larger of two numbers.
-fn larger(a: usize, b: usize) -> usize
-    ensures { λ r. ⌜ r ≡ max a b ⌝ }
-{
-    if a < b { b } else { a }
-}
-
 // 11, 12 or 14 for an instruction by its cells, where its depth is held as `held`.
 fn depth_number(held: u32, falls: u16, jumps: u16, pops: u8, pushes: u8, store: u16, call: u8) -> u8
     ensures { λ r. ⌜ r ≡ depthNumber middle held falls jumps pops pushes store call ⌝ }
@@ -37,36 +32,15 @@ fn depth_number(held: u32, falls: u16, jumps: u16, pops: u8, pushes: u8, store: 
     let behind = held + pushes as usize;
     let pops = pops as usize;
     let called = under(32, call as usize, 14);
-    let stored = first(under(held, 1048576 + store as usize, 12), called);
-    let back = both(under(jumps as usize, 1, 11), differ(held, 1048576, 11));
+    let stored = first(under(held, MIDDLE + store as usize, 12), called);
+    let back = both(under(jumps as usize, 1, 11), differ(held, MIDDLE, 11));
     let back = first(both(under(falls as usize, 1, 11), back), stored);
-    let high = first(under(1048831 + pops, behind, 11), back);
-    let low = first(under(behind, 1048576 + pops, 11), high);
+    let high = first(under(MIDDLE + 255 + pops, behind, 11), back);
+    let low = first(under(behind, MIDDLE + pops, 11), high);
     first(
-        under(held, 1048576, 11),
-        first(under(1048831, held, 11), low),
+        under(held, MIDDLE, 11),
+        first(under(MIDDLE + 255, held, 11), low),
     )
-}
-
-// What a call from a depth uses: 2 bytes more and the callee's need.
-fn call_use(depth: usize, call: usize, needs: &[u16; 32]) -> usize
-    requires { ⌜ (depth ≤ 65535) × (call ≤ 32) ⌝ }
-    ensures { λ r. ⌜ r ≡ callUse depth call (now (needs .entry)) ⌝ }
-{
-    if call == 0 {
-        return 0;
-    }
-    let place = call - 1;
-    depth + 2 + wide(needs[place])
-}
-
-// The stack bytes that an instruction has the routine use.
-fn used(depth: usize, pops: u8, pushes: u8, call: u8, needs: &[u16; 32]) -> usize
-    requires { ⌜ (depth ≤ 65535) × (call ≤ 32) × (pops ≤ depth + pushes) ⌝ }
-    ensures { λ r. ⌜ r ≡ greatestUse depth pops pushes call (now (needs .entry)) ⌝ }
-{
-    let behind = depth + pushes as usize - pops as usize;
-    larger(larger(depth, behind), call_use(depth, call as usize, needs))
 }
 
 // One offset: nothing where it is no start, else 11, 12 and 14, its mark, its use and the count.
@@ -84,7 +58,9 @@ fn check_depth(
     c: Checked,
 ) -> Checked
     requires { ⌜ (c .at < 4096) × (c .at < length (now marks)) × (c .count ≤ 4096) ⌝ }
-    ensures { λ r. ⌜ ((entry end : ℕ) → DepthStep (routine entry end (now (starts .entry)) (now (falls .entry)) (now (jumps .entry)) (now (pops .entry)) (now (pushes .entry)) (now (stores .entry)) (now (calls .entry)))
+    ensures { λ r. ⌜ ((entry end : ℕ) → DepthStep
+        (routine entry end (now (starts .entry)) (now (falls .entry)) (now (jumps .entry)) (now (pops .entry)) (now (pushes .entry))
+        (now (stores .entry)) (now (calls .entry)))
         (now (needs .entry)) middle (cells (now (depths .entry))) (now (marks .entry)) (c .at) (c .need) (c .count)
         (r .refusal) (r .at) (now (marks .exit)) (r .need) (r .count)) ⌝ }
 {
@@ -110,7 +86,7 @@ fn check_depth(
             count: c.count,
         };
     }
-    let depth = (held - 1048576) as usize;
+    let depth = held as usize - MIDDLE;
     let need = larger(c.need, used(depth, popped, pushed, call, needs));
     marks[o] = (depth + 1) as u16;
     Checked {
@@ -137,10 +113,14 @@ pub(crate) fn check_depths(
     depths: &[u32; 4096],
     marks: &mut [u16],
 ) -> Checked
-    requires { ⌜ Measurable (routine entry end (now starts) (now falls) (now jumps) (now pops) (now pushes) (now stores) (now calls)) middle (cells (now depths)) (now marks) counted ⌝ }
-    ensures { λ r. ⌜ Tested (routine entry end (now (starts .entry)) (now (falls .entry)) (now (jumps .entry)) (now (pops .entry)) (now (pushes .entry)) (now (stores .entry)) (now (calls .entry)))
-        (depthCheck (routine entry end (now (starts .entry)) (now (falls .entry)) (now (jumps .entry)) (now (pops .entry)) (now (pushes .entry)) (now (stores .entry)) (now (calls .entry))) middle (cells (now (depths .entry)))) (r .refusal) (r .at) ⌝ }
-    ensures { λ r. ⌜ (r .refusal ≡ 0 → Measured (routine entry end (now (starts .entry)) (now (falls .entry)) (now (jumps .entry)) (now (pops .entry)) (now (pushes .entry)) (now (stores .entry)) (now (calls .entry)))
+    requires { ⌜ Measurable (routine entry end (now starts) (now falls) (now jumps) (now pops) (now pushes) (now stores) (now calls))
+        middle (cells (now depths)) (now marks) counted ⌝ }
+    ensures { λ r. ⌜ (let x = routine entry end (now (starts .entry)) (now (falls .entry)) (now (jumps .entry)) (now (pops .entry)) (now (pushes .entry))
+        (now (stores .entry)) (now (calls .entry)) in
+        Tested x (depthCheck x middle (cells (now (depths .entry)))) (r .refusal) (r .at)) ⌝ }
+    ensures { λ r. ⌜ (r .refusal ≡ 0 → Measured
+        (routine entry end (now (starts .entry)) (now (falls .entry)) (now (jumps .entry)) (now (pops .entry)) (now (pushes .entry))
+        (now (stores .entry)) (now (calls .entry)))
         (now (needs .entry)) middle (cells (now (depths .entry))) (now (marks .entry)) (now (marks .exit)) counted (r .need) (r .count)) ⌝ }
     ensures { λ r. ⌜ (r .at ≤ end) × (r .count ≤ end) ⌝ }
 {

@@ -7,6 +7,9 @@ ghost use Rattle.control_flow.specs.Graph.{graph};
 ghost use Rattle.control_flow.specs.Routine.{routine};
 ghost use Rattle.control_flow.specs.Exploring.{middle, known, Followed, DepthAfter, Ready, Visited, Explorable, Explored, LowestUnknown};
 
+// What is held for depth 0: `middle` of the definitions.
+pub(crate) const MIDDLE: usize = 1048576;
+
 // The state of an exploration: how many offsets the stack holds, and whether every edge so far agrees with the depths.
 pub(crate) struct Exploration {
     pub height: usize,
@@ -99,7 +102,7 @@ pub(crate) fn explore(
         (now (depths .entry)) (now (depths .exit)) r ⌝ }
     ensures { λ r. ⌜ length (now (stack .exit)) ≡ 4096 ⌝ }
 {
-    depths[entry] = 1048576;
+    depths[entry] = MIDDLE as u32;
     stack[0] = entry as u16;
     let mut e = Exploration {
         height: 1,

@@ -41,11 +41,15 @@ pub(crate) fn check_flow(
     stack: &mut [u16; 4096],
     marks: &mut [u16],
 ) -> Checked
-    requires { ⌜ Checkable (routine entry end (now starts) (now falls) (now jumps) (now pops) (now pushes) (now stores) (now calls)) (now depths) (now stack) (now needs)
-        × (end ≤ length (now marks)) × (counted ≤ entry) ⌝ }
-    ensures { λ r. ⌜ FlowOutcome (routine entry end (now (starts .entry)) (now (falls .entry)) (now (jumps .entry)) (now (pops .entry)) (now (pushes .entry)) (now (stores .entry)) (now (calls .entry)))
+    requires { ⌜ Checkable (routine entry end (now starts) (now falls) (now jumps) (now pops) (now pushes) (now stores) (now calls))
+        (now depths) (now stack) (now needs) × (end ≤ length (now marks)) × (counted ≤ entry) ⌝ }
+    ensures { λ r. ⌜ FlowOutcome
+        (routine entry end (now (starts .entry)) (now (falls .entry)) (now (jumps .entry)) (now (pops .entry)) (now (pushes .entry))
+        (now (stores .entry)) (now (calls .entry)))
         (now (needs .entry)) (now (marks .entry)) counted (r .refusal) (r .at) (now (marks .exit)) (r .need) (r .count) ⌝ }
-    ensures { λ r. ⌜ Left (routine entry end (now (starts .entry)) (now (falls .entry)) (now (jumps .entry)) (now (pops .entry)) (now (pushes .entry)) (now (stores .entry)) (now (calls .entry)))
+    ensures { λ r. ⌜ Left
+        (routine entry end (now (starts .entry)) (now (falls .entry)) (now (jumps .entry)) (now (pops .entry)) (now (pushes .entry))
+        (now (stores .entry)) (now (calls .entry)))
         (now (depths .entry)) (now (depths .exit)) (now (stack .exit)) ⌝ }
     ensures { λ r. ⌜ (r .at ≤ end) × (r .count ≤ end) ⌝ }
 {

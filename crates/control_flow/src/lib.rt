@@ -3,3 +3,4 @@ mod depths;
 mod exploring;
 mod flow;
 mod jumps;
+mod uses;

@@ -57,8 +57,8 @@ check-depth-spec =
     (λ c. search needs)
     (λ c κs. search needs)
     returns-2
-    (λ c. omega (arith, here c .0 .before-low))
     (λ c. omega (arith, here c .0 .before-high))
+    (λ c. omega (arith, here c .0 .before-low))
     used-requires
     (λ c κs. search needs)
     (λ c. omega (arith, here (c .before .before) .0 .before-high))

@@ -7,7 +7,8 @@ use Rattle.control_flow.specs.Graph.{cells}
 use Rattle.control_flow.specs.Routine.{routine}
 use Rattle.control_flow.specs.Exploring.{middle, fails}
 use Rattle.control_flow.proofs.Outcomes.{tested-none}
-use Rattle.control_flow.proofs.Measures.{Measuring, measuring-begins, count-low, measuring-ends, measuring-passes, step-refuses, step-keeps, step-on, step-inside}
+use Rattle.control_flow.proofs.Measures.{Measuring, measuring-begins, count-low, measuring-ends, measuring-passes}
+use Rattle.control_flow.proofs.Measures.{step-refuses, step-keeps, step-on, step-inside}
 use Rattle.control_flow.proofs.depths.check_depths.Statement.{statement}
 use Rattle.control_flow.proofs.depths.check_depths.Tie as tie
 

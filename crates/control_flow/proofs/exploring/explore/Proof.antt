@@ -62,6 +62,7 @@ explore-spec =
     (tie.spec
     Inv-loop
     μ-loop
+    (λ c. search needs)
     (λ c. omega (arith, inside c))
     (λ c. inside c)
     (λ c. omega (arith, inside c))

@@ -12,7 +12,7 @@ follow-requires-2 c κs =
     let start = f .before .before .before .before .before .before .before .before in
     let ready = start .pre in
     let fallen = effect (ready .fall) (after .some) (ready .cells) (f .follow .ensures) in
-    (ready .jump, after .some, fallen .cells, omega (arith, fallen .count, ready .room))
+    (omega arith, after .some, fallen .cells, omega (arith, fallen .count))
 
 pub visit-spec : {M : Type 1} → statement M
 visit-spec =

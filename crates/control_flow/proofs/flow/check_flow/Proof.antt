@@ -1,5 +1,6 @@
 -- `control_flow::flow::check_flow` meets its contract: each pass gives the next what it asks.
-use Prim.Native.Nat.{ℕ}
+use Prim.Native.Nat.{ℕ, _≤_}
+use mathlib.Core.Path.{_≡_}
 use mathlib.Core.List.{List}
 use native.Mathlib.Omega.{arith}
 use borrow.Author.Needs.{needs}
@@ -8,7 +9,8 @@ use Rattle.control_flow.specs.Routine.{Routine, routine, WellFormed, jum
 use Rattle.control_flow.specs.Outcome.{Passes, strayed}
 use Rattle.control_flow.specs.Exploring.{LowestUnknown, Tested}
 use Rattle.control_flow.proofs.Numbers.{well-formed}
-use Rattle.control_flow.proofs.Outcomes.{tested-fails, tested-passes, outcome-by, untouched, explorable, left, measurable, unreached-at, disagreeing-at, tested-at}
+use Rattle.control_flow.proofs.Outcomes.{tested-fails, tested-passes, outcome-by, untouched, explorable, left, measurable}
+use Rattle.control_flow.proofs.Outcomes.{unreached-at, disagreeing-at, tested-at}
 use Rattle.control_flow.proofs.flow.check_flow.Statement.{statement}
 use Rattle.control_flow.proofs.flow.check_flow.Tie as tie
 
@@ -26,11 +28,15 @@ tested c =
 
 lowest : (s : tie.Start) {depths : List ℕ} {o : ℕ} →
     ((falls jumps pops pushes stores calls : List ℕ) →
-      LowestUnknown (routine (s .args .entry) (s .args .end) (now (s .args .starts)) falls jumps pops pushes stores calls) depths o) →
+    LowestUnknown (routine (s .args .entry) (s .args .end) (now (s .args .starts)) falls jumps pops pushes stores calls) depths o) →
     LowestUnknown (x s) depths o
 lowest s w =
     let a = s .args in
     w (now (a .falls)) (now (a .jumps)) (now (a .pops)) (now (a .pushes)) (now (a .stores)) (now (a .calls))
+
+-- the offset and the count of a refusal
+within : (s : tie.Start) (at count : ℕ) → at ≤ s .args .end → count ≡ s .args .counted → (at ≤ s .args .end) × (count ≤ s .args .end)
+within s at count h e = (h, omega (arith, s .pre .2, s .pre .0 .decoded .entry .high))
 
 -- every jump lands on a start
 landed : (c : tie.Else1) → let s = c .before .before .before .before in Passes (x s) (jumpCheck (x s))
@@ -42,10 +48,11 @@ formed c = well-formed (c .before .before .before .before .pre .0 .decoded) (lan
 returns : tie.Need-returns
 returns c =
     let j = c .before .before .before in
-    let asks = j .before .before .pre in
+    let s = j .before .before in
+    let asks = s .pre in
     let r = c .refused .ensures in (
       outcome-by (r .0) (r .1) (strayed (tested-fails (tested j) (c .before .if1 .taken))),
-      (untouched (asks .0 .cells) (asks .0 .slots), (omega (arith, r .1, j .check-jumps .ensures .1), omega (arith, r .2, asks .2, asks .0 .decoded .entry .high))),
+      (untouched (asks .0 .cells) (asks .0 .slots), within s _ _ (omega (arith, r .1, j .check-jumps .ensures .1)) (r .2)),
     )
 
 explore-requires : tie.Need-explore-requires
@@ -65,7 +72,7 @@ returns-2 c =
     let r = c .refused2 .ensures in (
       outcome-by (r .0) (r .1)
           (unreached-at (formed e) (asks .0 .clear) (found .0) (lowest s (w .lowest-unknown .ensures)) (landed e) (c .before .if2 .taken)),
-      (left (formed e) (asks .0 .clear) (found .0) (found .1), (omega (arith, r .1, c .before .if2 .taken), omega (arith, r .2, asks .2, asks .0 .decoded .entry .high))),
+      (left (formed e) (asks .0 .clear) (found .0) (found .1), within s _ _ (omega (arith, r .1, c .before .if2 .taken)) (r .2)),
     )
 
 check-depths-requires : tie.Need-check-depths-requires
@@ -104,7 +111,7 @@ returns-4 c =
     let r = c .refused3 .ensures in (
       outcome-by (r .0) (r .1)
           (disagreeing-at (formed e) (asks .0 .clear) (found .0) (lowest s (w .lowest-unknown .ensures)) (landed e) (t .before .if2 .left) (t .if3 .left)),
-      (left (formed e) (asks .0 .clear) (found .0) (found .1), (omega (arith, r .1, asks .0 .decoded .entry .high), omega (arith, r .2, asks .2, asks .0 .decoded .entry .high))),
+      (left (formed e) (asks .0 .clear) (found .0) (found .1), within s _ _ (omega (arith, r .1, asks .0 .decoded .entry .high)) (r .2)),
     )
 
 pub check-flow-spec : {M : Type 1} → statement M

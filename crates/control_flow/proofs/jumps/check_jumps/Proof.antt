@@ -49,7 +49,8 @@ loop-again : tie.Need-loop-again Inv-loop μ-loop
 loop-again c =
     let l = c .before .before .before in
     let a = l .before .args in
-    (omega arith, omega arith, one-more (a .entry) (cells (now (a .starts))) (Lands (now (a .starts)) (now (a .jumps))) (l .loop .o) (l .loop .inv .2) (lands-here c))
+    let more = one-more (a .entry) (cells (now (a .starts))) (Lands (now (a .starts)) (now (a .jumps))) (l .loop .o) (l .loop .inv .2) (lands-here c) in
+    (omega arith, omega arith, more)
 
 below : (c : tie.In-loop Inv-loop μ-loop) → c .before .loop .o < 4096
 below c = omega (arith, c .loop-test .taken, c .before .before .pre .1)

@@ -1,8 +1,8 @@
--- `control_flow::depths::used` meets its contract.
+-- `control_flow::uses::used` meets its contract.
 use borrow.Author.Needs.{needs}
 use Rattle.control_flow.specs.Measuring.{greatestUse}
-use Rattle.control_flow.proofs.depths.used.Statement.{statement}
-use Rattle.control_flow.proofs.depths.used.Tie as tie
+use Rattle.control_flow.proofs.uses.used.Statement.{statement}
+use Rattle.control_flow.proofs.uses.used.Tie as tie
 
 returns : tie.Need-returns
 unfolding greatestUse

@@ -1,10 +1,10 @@
--- `control_flow::depths::call_use` meets its contract.
+-- `control_flow::uses::call_use` meets its contract.
 use native.Mathlib.Omega.{arith}
 use borrow.Author.Needs.{needs}
 use borrow.Author.Tests.{eq-eqb, ne-eqb}
 use Rattle.control_flow.specs.Measuring.{callUse}
-use Rattle.control_flow.proofs.depths.call_use.Statement.{statement}
-use Rattle.control_flow.proofs.depths.call_use.Tie as tie
+use Rattle.control_flow.proofs.uses.call_use.Statement.{statement}
+use Rattle.control_flow.proofs.uses.call_use.Tie as tie
 
 returns : tie.Need-returns
 unfolding callUse
