@@ -29,6 +29,12 @@ module _ {bias most : ℕ} {g : Graph} {before depths stack : List ℕ} {height 
       let least = mul-le-mul-left most all in
       (omega (arith, n .low, least), omega (arith, n .high, least))
 
+  -- the depth after the visited instruction, where the bias is large enough
+  pub depth-after : most * 4097 < bias → g .pushes o ≤ most → g .pops o ≤ most →
+      DepthAfter most (getD depths o 0) (g .pushes o) (g .pops o) (getD depths o 0 + g .pushes o - g .pops o)
+  depth-after small pushed popped =
+      record { moved = omega (arith, in-range .0); some = omega (arith, in-range .0); pushed-most = pushed; popped-most = popped }
+
   taken : Exploring bias most g before (λ x. x ≡ o) depths stack (height - 1) agree
   taken =
       record {
