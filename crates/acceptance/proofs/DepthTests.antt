@@ -19,7 +19,7 @@ use Rattle.acceptance.specs.Cells.{Stored}
 use Rattle.acceptance.proofs.JumpCells.{return-cells}
 use Rattle.acceptance.proofs.StoreCells.{store-cell}
 use Rattle.acceptance.proofs.CallCells as calls
-use Rattle.acceptance.proofs.DepthNumbers.{Inside, DepthTest, outside, denied, lost, allowed, depth-test}
+use Rattle.control_flow.proofs.DepthNumbers.{Inside, DepthTest, outside, denied, lost, allowed, depth-test}
 
 -- an instruction before the address `next`, at the depth of a path
 module _ (image : List ℕ) (limits : Limits) (r next : ℕ) (e : Effect) (pushes pops : ℕ) where

@@ -1,3 +1,9 @@
+pub mod Listing
+pub mod StartList
+pub mod Decoding
+pub mod Exploring
+pub mod Measuring
+pub mod FlowFunction
 pub mod JumpCells
 pub mod StoreCells
 pub mod CallCells
@@ -5,7 +11,6 @@ pub mod Graphs
 pub mod Faults
 pub mod CodeFaults
 pub mod Strays
-pub mod DepthNumbers
 pub mod DepthTests
 pub mod DepthFaults
 pub mod RoutineRules
@@ -16,3 +21,6 @@ pub mod AllRoutines
 pub mod NeedBounds
 pub mod WholeCode
 pub mod Outcomes
+pub mod CheckFunction
+pub mod Accepting
+pub mod EveryCheck

@@ -1,10 +1,9 @@
 -- The outcome of a check whose image is valid and whose marks are enough: accepted, or refused with 16 or in a routine.
-use Prim.Native.Nat.{ℕ, _+_, _-_, _<_, _≤_}
-use mathlib.Core.Path.{_≡_, sym, ap, _∙_}
+use Prim.Native.Nat.{ℕ, _+_, _<_, _≤_}
+use mathlib.Core.Path.{_≡_, _∙_}
 use mathlib.Core.List.{List, _++_}
 use native.Mathlib.Omega.{arith}
-use lib.ListN.{length, getD, drop, replicate, length-append, length-drop, List·getD-append}
-use lib.Seq.{getD-append-add, getD-drop}
+use lib.ListN.{length, drop, replicate}
 use Rattle.image.specs.declared.Limits.{Limits}
 use Rattle.image.specs.declared.Layout.{Layout}
 use Rattle.image.specs.declared.Validated.the-variants as Validated
@@ -16,39 +15,25 @@ use Rattle.image.proofs.Layouts.{begins-before-end}
 use Rattle.image.proofs.Measuring.{end-inside}
 use Rattle.rules.specs.Depth.{reportedNeed}
 use Rattle.rules.specs.Refusal.{RoutineRefusal, inRoutine, noRoom}
-use Rattle.rules.specs.Acceptance.{Acceptable, AcceptedMarks, PastCode}
+use Rattle.rules.specs.Acceptance.{Acceptable, AcceptedMarks}
 use Rattle.rules.specs.Outcome.{Outcome, refused, accepted}
 use Rattle.rules.specs.declared.Verdict.the-variants.{Accepted, Refused}
 use Rattle.rules.proofs.Starts.{start-high}
 use Rattle.rules.proofs.Passing.{rules-pass}
+use Rattle.rules.proofs.EveryOutcome.{front-mark, front-past}
 use Rattle.acceptance.specs.Passed.{depthIn, needIn, RoutinesPassed}
 use Rattle.acceptance.proofs.WholeCode.{all-rules, all-needs, all-marks, all-counted}
 
--- marks of the code, with the cells past the code as they were
-module _ (image before marks : List ℕ) (size : length marks ≡ sizeOf image) (enough : sizeOf image ≤ length before) where
-  pub past-code : PastCode image before (marks ++ drop (sizeOf image) before)
-  past-code =
-      record {
-        size = omega (arith, length-append marks (drop (sizeOf image) before), length-drop (sizeOf image) before);
-        cells = λ o past.
-            let at : length marks + (o - sizeOf image) ≡ o = omega arith in
-            let back : sizeOf image + (o - sizeOf image) ≡ o = omega arith in
-            ap (λ k. getD (marks ++ drop (sizeOf image) before) k 0) (sym at) ∙
-            getD-append-add marks (drop (sizeOf image) before) (o - sizeOf image) 0 ∙
-            getD-drop (sizeOf image) before (o - sizeOf image) 0 ∙ ap (λ k. getD before k 0) back;
-      }
-
-  code-mark : (o : ℕ) → o < sizeOf image → getD (marks ++ drop (sizeOf image) before) o 0 ≡ getD marks o 0
-  code-mark o below = List·getD-append marks (drop (sizeOf image) before) 0 o (omega arith)
-
+-- the marks of the code are kept with the cells past it
+module _ (image before marks : List ℕ) (size : length marks ≡ sizeOf image) where
   marks-kept : ImageRules image → {depth : ℕ → ℕ} → AcceptedMarks image depth marks →
       AcceptedMarks image depth (marks ++ drop (sizeOf image) before)
   marks-kept layout m =
       record {
         starts = λ r o inside s.
             let high = start-high image r (begins-before-end image layout r inside) s in
-            code-mark o (omega (arith, end-inside image r inside)) ∙ m .starts r o inside s;
-        others = λ o below. rw (code-mark o below) (m .others o below);
+            front-mark image before marks size o (omega (arith, end-inside image r inside)) ∙ m .starts r o inside s;
+        others = λ o below. rw (front-mark image before marks size o below) (m .others o below);
       }
 
 module _ {image : List ℕ} {limits : Limits} {layout : Layout} (valid : validated image limits ≡ Validated.Valid layout) (before : List ℕ)
@@ -92,5 +77,4 @@ module _ {image : List ℕ} {limits : Limits} {layout : Layout} (valid : validat
         Outcome image limits before (Accepted need count) (marks ++ drop (sizeOf image) before)
     unfolding acceptable
     accepted-outcome room =
-        accepted (acceptable room) (marks-kept image before marks (passed .size) enough rules (all-marks passed every))
-        (past-code image before marks (passed .size) enough)
+        accepted (acceptable room) (marks-kept image before marks (passed .size) rules (all-marks passed every)) (front-past image before marks (passed .size) enough)

@@ -1,4 +1,4 @@
-// stub
+// The check of one routine by its cells.
 ghost use mathlib.Core.Path.{_≡_};
 ghost use Prim.Native.Nat.{ℕ, _≤_};
 ghost use lib.ListN.{length};
@@ -6,7 +6,25 @@ ghost use Rattle.control_flow.specs.Routine.{routine};
 ghost use Rattle.control_flow.specs.Outcome.{FlowOutcome};
 ghost use Rattle.control_flow.specs.Exploring.{Checkable, Left};
 use crate::depths::Checked;
+use crate::depths::check_depths;
+use crate::exploring::explore;
+use crate::exploring::lowest_unknown;
+use crate::jumps::check_jumps;
 
+// A routine that is refused.
+fn refused(number: u8, at: usize, counted: usize) -> Checked
+    ensures { λ r. ⌜ (r .refusal ≡ number) × (r .at ≡ at) × (r .count ≡ counted) ⌝ }
+{
+    Checked {
+        refusal: number,
+        at,
+        need: 0,
+        count: counted,
+    }
+}
+
+// 13 and 10; 6 at the lowest unreached start; 7 at the first byte where two paths disagree on a depth; 11, 12 and 14. Where it passes the marks hold
+// depth + 1 at each of its starts.
 pub(crate) fn check_flow(
     entry: usize,
     end: usize,
@@ -23,18 +41,44 @@ pub(crate) fn check_flow(
     stack: &mut [u16; 4096],
     marks: &mut [u16],
 ) -> Checked
-    requires { ⌜ Checkable (routine entry end (now starts) (now falls) (now jumps) (now pops) (now pushes) (now stores) (now calls)) (now depths) (now stack) (now needs)
-        × (end ≤ length (now marks)) × (counted ≤ entry) ⌝ }
-    ensures { λ r. ⌜ FlowOutcome (routine entry end (now (starts .entry)) (now (falls .entry)) (now (jumps .entry)) (now (pops .entry)) (now (pushes .entry)) (now (stores .entry)) (now (calls .entry)))
+    requires { ⌜ Checkable (routine entry end (now starts) (now falls) (now jumps) (now pops) (now pushes) (now stores) (now calls))
+        (now depths) (now stack) (now needs) × (end ≤ length (now marks)) × (counted ≤ entry) ⌝ }
+    ensures { λ r. ⌜ FlowOutcome
+        (routine entry end (now (starts .entry)) (now (falls .entry)) (now (jumps .entry)) (now (pops .entry)) (now (pushes .entry))
+        (now (stores .entry)) (now (calls .entry)))
         (now (needs .entry)) (now (marks .entry)) counted (r .refusal) (r .at) (now (marks .exit)) (r .need) (r .count) ⌝ }
-    ensures { λ r. ⌜ Left (routine entry end (now (starts .entry)) (now (falls .entry)) (now (jumps .entry)) (now (pops .entry)) (now (pushes .entry)) (now (stores .entry)) (now (calls .entry)))
+    ensures { λ r. ⌜ Left
+        (routine entry end (now (starts .entry)) (now (falls .entry)) (now (jumps .entry)) (now (pops .entry)) (now (pushes .entry))
+        (now (stores .entry)) (now (calls .entry)))
         (now (depths .entry)) (now (depths .exit)) (now (stack .exit)) ⌝ }
     ensures { λ r. ⌜ (r .at ≤ end) × (r .count ≤ end) ⌝ }
 {
-    Checked {
-        refusal: 0,
-        at: 0,
-        need: 0,
-        count: 0,
+    let strayed = check_jumps(entry, end, starts, jumps);
+    if strayed.number != 0 {
+        return refused(strayed.number, strayed.at, counted);
+    }
+    let agree = explore(entry, falls, jumps, pops, pushes, depths, stack);
+    let lowest = lowest_unknown(entry, end, starts, &*depths);
+    if lowest < end {
+        return refused(6, lowest, counted);
+    }
+    if agree {
+        check_depths(
+            entry,
+            end,
+            starts,
+            falls,
+            jumps,
+            pops,
+            pushes,
+            stores,
+            calls,
+            needs,
+            counted,
+            &*depths,
+            marks,
+        )
+    } else {
+        refused(7, entry, counted)
     }
 }

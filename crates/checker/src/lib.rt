@@ -3,9 +3,12 @@ mod cells;
 mod decoding;
 mod depth;
 mod depths;
+mod exploring;
 mod flow;
+mod jumps;
 mod marks;
 mod sweep;
+mod uses;
 
 pub use rules::Verdict;
 ghost use mathlib.Core.Path.{_≡_};

@@ -3,7 +3,7 @@ ghost use mathlib.Core.Path.{_≡_};
 ghost use Prim.Native.Nat.{_≤_};
 ghost use lib.ListN.{length, replicate};
 
-// Where a routine begins, as a number to reckon with. It is a function so that its contract tells callers the bound.
+// A 16-bit cell as a number to index and to reckon with. It is a function so that its contract tells callers the bound.
 pub(crate) fn wide(x: u16) -> usize
     ensures { λ r. ⌜ r ≡ x ⌝ }
     ensures { λ r. ⌜ r ≤ 65535 ⌝ }

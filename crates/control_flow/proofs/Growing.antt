@@ -1,61 +1,27 @@
--- An edge of the offset that is visited is followed: the invariant is kept.
-use Prim.Native.Nat.{ℕ, _+_, _*_, _<_, _≤_}
+-- The target of an edge gets its depth and goes on the stack: the invariant is kept.
+use Prim.Native.Nat.{ℕ, _+_, _*_, _<_}
 use mathlib.Core.Path.{_≡_, sym, _∙_}
 use mathlib.Core.Logic.{_⊎_, inl, inr, ⊎-elim, by-cases}
-use mathlib.Core.Bool.{Bool, true, false}
+use mathlib.Core.Bool.{Bool}
 use mathlib.Core.List.{List}
 use native.Mathlib.Decide.{ℕ-discrete}
 use native.Mathlib.Nat.{mul-add, mul-one}
 use native.Mathlib.Omega.{arith}
 use lib.ListN.{length, getD, set, length-set}
 use lib.Seq.{getD-set-same, getD-set-other}
-use Rattle.control_flow.specs.Graph.{Graph, Edge, Reached, followed, Path, onward, Disagree}
-use Rattle.control_flow.specs.Exploring.{Known, known, Followed, nowhere, fresh, same, other, DepthAfter}
+use Rattle.control_flow.specs.Graph.{Graph, Edge, Reached, followed, Path, onward}
+use Rattle.control_flow.specs.Exploring.{Known, known, DepthAfter}
 use Rattle.control_flow.proofs.Knowing.{known-most, known-set, depth-kept}
-use Rattle.control_flow.proofs.Following.{differ}
 use Rattle.control_flow.proofs.Invariant.{Waiting, Deep, Near, Done, Exploring}
 
 module _ {bias most : ℕ} {g : Graph} {before : List ℕ} {Visiting : ℕ → Type 0} {depths stack : List ℕ} {height : ℕ} {agree : Bool}
     (s : Exploring bias most g before Visiting depths stack height agree) (inside : (x : ℕ) → Reached g x → x < 4096)
     (o depth : ℕ) (reached : Reached g o) (is : Known depths o) (after : DepthAfter most (getD depths o 0) (g .pushes o) (g .pops o) depth) where
   -- the path to o, and on to t
-  further : {t : ℕ} → Edge g o t → (pushed : ℕ) × (popped : ℕ) × Path g t pushed popped × (depth + popped ≡ bias + pushed)
+  pub further : {t : ℕ} → Edge g o t → (pushed : ℕ) × (popped : ℕ) × Path g t pushed popped × (depth + popped ≡ bias + pushed)
   further e =
       let d = s .deep o reached is in
       (d .pushed + g .pushes o, d .popped + g .pops o, onward (d .path) e, omega (arith, d .depth, after .moved))
-
-  -- the target has another depth: its path and this one disagree
-  conflict : (t : ℕ) → Edge g o t → Known depths t → (getD depths t 0 ≡ depth → ⊥) → Disagree g
-  conflict t e some not =
-      let here = s .deep t (followed reached e) some in
-      let there = further e in
-      record {
-        offset = t;
-        pushed = here .pushed;
-        popped = here .popped;
-        pushed′ = there .0;
-        popped′ = there .1;
-        path = here .path;
-        path′ = there .2;
-        differ = λ z. not (omega (arith, here .depth, there .3));
-      }
-
-  apart : (t : ℕ) → Edge g o t → Known depths t → (getD depths t 0 ≡ depth → ⊥) → Exploring bias most g before Visiting depths stack height false
-  apart t e some not =
-      record {
-        some = s .some;
-        cells = s .cells;
-        slots = s .slots;
-        room = s .room;
-        entry = s .entry;
-        others = s .others;
-        deep = s .deep;
-        near = s .near;
-        waiting = s .waiting;
-        done = λ x r k.
-            ⊎-elim inl (λ w. inr (⊎-elim inl (λ d. inr (λ u f. (d u f .0, λ z. differ z))) w)) (s .done x r k);
-        disagree = λ z. conflict t e some not;
-      }
 
   -- the target gets its depth and goes on the stack
   module _ (t : ℕ) (e : Edge g o t) (none : getD depths t 0 ≡ 0) where
@@ -108,7 +74,11 @@ module _ {bias most : ℕ} {g : Graph} {before : List ℕ} {Visiting : ℕ → T
         by-cases (ℕ-discrete x t)
         (λ here.
         let n = s .near o reached is in
-        rw here (record { low = omega (arith, n .low, after .moved, after .popped-most, more, new); high = omega (arith, n .high, after .moved, after .pushed-most, more, new) }))
+        rw here
+        (record {
+          low = omega (arith, n .low, after .moved, after .popped-most, more, new);
+          high = omega (arith, n .high, after .moved, after .pushed-most, more, new);
+        }))
         (λ away.
         let n = s .near x r (omega (arith, still x away, k)) in
         record { low = omega (arith, n .low, still x away, more); high = omega (arith, n .high, still x away, more) })
@@ -131,7 +101,7 @@ module _ {bias most : ℕ} {g : Graph} {before : List ℕ} {Visiting : ℕ → T
         let old : Known depths x = omega (arith, still x away, k) in
         ⊎-elim inl (λ w. inr (⊎-elim (λ h. inl (waits x h)) (λ d. inr (done-still x old d)) w)) (s .done x r old))
 
-    grown : Exploring bias most g before Visiting (set depths t depth) (set stack height t) (height + 1) agree
+    pub grown : Exploring bias most g before Visiting (set depths t depth) (set stack height t) (height + 1) agree
     grown =
         record {
           some = s .some;
@@ -147,10 +117,3 @@ module _ {bias most : ℕ} {g : Graph} {before : List ℕ} {Visiting : ℕ → T
           done = grown-done;
           disagree = s .disagree;
         }
-
-  pub follow-keeps : {to : ℕ} {depths′ stack′ : List ℕ} {height′ : ℕ} {agree′ : Bool} → ((t : ℕ) → to ≡ t + 1 → Edge g o t) →
-      Followed to depth depths stack height agree depths′ stack′ height′ agree′ → Exploring bias most g before Visiting depths′ stack′ height′ agree′
-  follow-keeps edge (nowhere e) = s
-  follow-keeps edge (fresh t e none) = grown t (edge t e) none
-  follow-keeps edge (same t e z some) = s
-  follow-keeps edge (other t e some not) = apart t (edge t e) some not

@@ -9,9 +9,8 @@ use lib.ListN.{length, getD, set, length-set}
 use lib.Seq.{getD-set-same, getD-set-other}
 use Rattle.control_flow.specs.Routine.{Routine, Start, depthCheck, Uses, before, countFrom}
 use Rattle.control_flow.specs.Outcome.{First, Passes, Measured}
-use Rattle.control_flow.specs.Exploring.{Tested, fails, passes}
 use Rattle.control_flow.specs.Measuring.{useAt, DepthStep, skips, refuses, measures, Measurable}
-use Rattle.control_flow.proofs.Numbers.{DepthPasses, depth-passes}
+use Rattle.control_flow.proofs.DepthNumbers.{Inside, depth-passes}
 use Rattle.control_flow.proofs.Rising.{Below, none-below, one-more}
 use Rattle.control_flow.proofs.Using.{either, use-most, use-attained}
 use Rattle.control_flow.proofs.Counting.{count-most, count-start, count-other}
@@ -71,17 +70,17 @@ module _ {x : Routine} (needs : List ℕ) {bias : ℕ} {held : ℕ → ℕ} {giv
       start-here : 1 ≤ x .starts at → Start x at
       start-here is = record { low = m .low; high = inside; is = is }
 
-      depth-here : depthCheck x bias held at ≡ 0 → DepthPasses bias (held at) (x .graph .falls at) (x .graph .jumps at) (x .graph .pops at)
+      depth-here : depthCheck x bias held at ≡ 0 → Inside bias (held at) (x .graph .falls at) (x .graph .jumps at) (x .graph .pops at)
           (x .graph .pushes at) (x .stores at) (x .calls at)
-      depth-here p = depth-passes _ _ _ _ _ _ _ _ p
+      depth-here p = depth-passes _ _ _ _ _ _ _ _ p .0
 
       new : depthCheck x bias held at ≡ 0 → Done x needs bias held (set marks at (held at - bias + 1)) (max need (useAt x needs bias held at)) at
       new p =
           let d = depth-here p in
           record {
             passed = p;
-            most = λ v u. omega (arith, use-most x needs bias held at (d .low) (d .after-low) v u);
-            mark = omega (arith, d .low, getD-set-same marks at (held at - bias + 1) 0 (omega (arith, m .size, asks .room)));
+            most = λ v u. omega (arith, use-most x needs bias held at (d .before-low) (d .after-low) v u);
+            mark = omega (arith, d .before-low, getD-set-same marks at (held at - bias + 1) 0 (omega (arith, m .size, asks .room)));
           }
 
       -- a lower start stays done
@@ -98,7 +97,7 @@ module _ {x : Routine} (needs : List ℕ) {bias : ℕ} {held : ℕ → ℕ} {giv
           (o : ℕ) × Start x o × Uses x needs bias held o (max need (useAt x needs bias held at))
       measured-attained is p =
           let d = depth-here p in
-          let u = use-attained x needs bias held at (d .low) (d .after-low) in
+          let u = use-attained x needs bias held at (d .before-low) (d .after-low) in
           either (λ n. (o : ℕ) × Start x o × Uses x needs bias held o n) need (useAt x needs bias held at) (m .attained) (at, start-here is, u)
 
       pub step-refuses : {number at′ need′ count′ : ℕ} {marks′ : List ℕ} → DepthStep x needs bias held marks at need count number at′ marks′ need′ count′ →
@@ -137,3 +136,15 @@ module _ {x : Routine} (needs : List ℕ) {bias : ℕ} {held : ℕ → ℕ} {giv
             others = λ o. by-cases (ℕ-discrete o at) (λ here. inl (rw here (start-here is)))
                 (λ away. ⊎-elim inl (λ e. inr (getD-set-other marks at o (held at - bias + 1) 0 away ∙ e)) (m .others o));
           }
+
+      pub step-on : {number at′ need′ count′ : ℕ} {marks′ : List ℕ} → DepthStep x needs bias held marks at need count number at′ marks′ need′ count′ →
+          number ≡ 0 → at′ ≡ at + 1
+      step-on (skips none) z = refl
+      step-on (refuses is e more) z = absurd (omega arith)
+      step-on (measures is p) z = refl
+
+      pub step-inside : {number at′ need′ count′ : ℕ} {marks′ : List ℕ} → DepthStep x needs bias held marks at need count number at′ marks′ need′ count′ →
+          (at′ ≤ x .end) × (count′ ≤ x .end)
+      step-inside (skips none) = (omega arith, omega (arith, count-low))
+      step-inside (refuses is e more) = (omega arith, omega (arith, count-low))
+      step-inside (measures is p) = (omega arith, omega (arith, count-low))

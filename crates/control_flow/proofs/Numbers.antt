@@ -1,15 +1,14 @@
--- What it means that 13 and 10 pass, and that 11, 12 and 14 do; and that control then stays on the starts.
+-- What it means that 13 and 10 pass: control stays on the starts.
 use Prim.Native.Nat.{ℕ, _+_, _-_, _≤_}
 use mathlib.Core.Path.{_≡_}
-use mathlib.Core.Logic.{_⊎_, inl, inr, ⊎-elim, by-cases}
+use mathlib.Core.Logic.{by-cases}
 use native.Mathlib.Decide.{ℕ-discrete}
 use native.Mathlib.Omega.{arith}
 use lib.Dec.{eqb, ltb}
 use borrow.Author.Tests.{eqb-true, eqb-false, ltb-false}
-use Rattle.numbers.proofs.Checking.{by-cond, under-zero, both-zero, differ-zero}
-use Rattle.numbers.proofs.Folding.{passed}
+use Rattle.numbers.proofs.Checking.{by-cond}
 use Rattle.control_flow.specs.Graph.{Edge, falling, jumping}
-use Rattle.control_flow.specs.Routine.{Routine, Start, Decoded, WellFormed, jumpNumber, jumpCheck, depthNumber}
+use Rattle.control_flow.specs.Routine.{Routine, Start, Decoded, WellFormed, jumpNumber, jumpCheck}
 use Rattle.control_flow.specs.Outcome.{Passes}
 
 -- a jump's cell that names an offset, where 13 and 10 pass: a start's
@@ -34,30 +33,3 @@ well-formed {x} d landed = record { size = d .size; entry = d .entry; edges = ed
         let cell : x .graph .jumps o - 1 ≡ to = omega arith in
         let i = d .jumps o to s e (omega (arith, l .0)) in
         record { low = i .0; high = i .1; is = rw cell at (l .1) }
-
--- the depth before and after an instruction is from 0 to 255, and so on
-pub record DepthPasses (bias held falls jumps pops pushes store call : ℕ) : Type 0 where
-  pub low : bias ≤ held
-  pub high : held ≤ bias + 255
-  pub after-low : bias + pops ≤ held + pushes
-  pub after-high : held + pushes ≤ bias + 255 + pops
-  pub goes : (1 ≤ falls) ⊎ ((1 ≤ jumps) ⊎ (held ≡ bias))
-  pub stores : bias + store ≤ held
-  pub calls : call ≤ 32
-
-pub depth-passes : (bias held falls jumps pops pushes store call : ℕ) → depthNumber bias held falls jumps pops pushes store call ≡ 0 →
-    DepthPasses bias held falls jumps pops pushes store call
-unfolding depthNumber
-depth-passes bias held falls jumps pops pushes store call e =
-    let p = passed _ e in
-    record {
-      low = under-zero held bias 10 (p .0);
-      high = under-zero (bias + 255) held 10 (p .1 .0);
-      after-low = under-zero (held + pushes) (bias + pops) 10 (p .1 .1 .0);
-      after-high = under-zero (bias + 255 + pops) (held + pushes) 10 (p .1 .1 .1 .0);
-      goes = ⊎-elim (λ f. inl (under-zero falls 1 10 f))
-          (λ w. inr (⊎-elim (λ j. inl (under-zero jumps 1 10 j)) (λ d. inr (differ-zero held bias 10 d)) (both-zero _ _ w)))
-          (both-zero _ _ (p .1 .1 .1 .1 .0));
-      stores = under-zero held (bias + store) 11 (p .1 .1 .1 .1 .1 .0);
-      calls = under-zero 32 call 13 (p .1 .1 .1 .1 .1 .1 .0);
-    }

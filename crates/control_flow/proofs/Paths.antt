@@ -4,7 +4,7 @@ use mathlib.Core.Path.{_≡_, refl}
 use mathlib.Core.Bool.{Bool, true, false}
 use mathlib.Core.List.{List}
 use native.Mathlib.Omega.{arith}
-use Rattle.control_flow.specs.Graph.{Graph, Reached, entered, followed, Path, start, onward, Disagree}
+use Rattle.control_flow.specs.Graph.{Graph, Reached, entered, followed, Path, start, onward, Disagree, cells}
 use Rattle.control_flow.specs.Routine.{Routine, Start, WellFormed}
 use Rattle.control_flow.specs.Exploring.{Explored}
 
@@ -32,7 +32,7 @@ agreeing false h = absurd (h refl)
 
 module _ {bias : ℕ} {g : Graph} {before depths : List ℕ} {agree : Bool} (found : Explored bias g before depths agree) where
   pub agree-none : agree ≡ true → Disagree g → ⊥
-  agree-none a z = z .differ (omega (arith, found .depth a _ _ _ (z .path), found .depth a _ _ _ (z .path′)))
+  agree-none a = held-none bias (cells depths) (found .depth a)
 
   pub none-agree : (Disagree g → ⊥) → agree ≡ true
   none-agree h = agreeing agree (λ z. h (found .disagree z))

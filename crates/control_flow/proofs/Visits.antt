@@ -13,7 +13,7 @@ use Rattle.control_flow.specs.Exploring.{middle, Known, known, DepthAfte
 use Rattle.control_flow.proofs.Knowing.{known-most}
 use Rattle.control_flow.proofs.Following.{Effect, effect}
 use Rattle.control_flow.proofs.Invariant.{Done, Exploring, Nothing}
-use Rattle.control_flow.proofs.Growing.{follow-keeps}
+use Rattle.control_flow.proofs.Edges.{follow-keeps}
 
 -- the top of the stack is taken, and its edges are followed
 module _ {bias most : ℕ} {g : Graph} {before depths stack : List ℕ} {height : ℕ} {agree : Bool}
@@ -28,6 +28,12 @@ module _ {bias most : ℕ} {g : Graph} {before depths stack : List ℕ} {height 
       let all : known depths ≤ 4096 = omega (arith, known-most depths, s .cells) in
       let least = mul-le-mul-left most all in
       (omega (arith, n .low, least), omega (arith, n .high, least))
+
+  -- the depth after the visited instruction, where the bias is large enough
+  pub depth-after : most * 4097 < bias → g .pushes o ≤ most → g .pops o ≤ most →
+      DepthAfter most (getD depths o 0) (g .pushes o) (g .pops o) (getD depths o 0 + g .pushes o - g .pops o)
+  depth-after small pushed popped =
+      record { moved = omega (arith, in-range .0); some = omega (arith, in-range .0); pushed-most = pushed; popped-most = popped }
 
   taken : Exploring bias most g before (λ x. x ≡ o) depths stack (height - 1) agree
   taken =
@@ -121,9 +127,13 @@ module _ {bias most : ℕ} {g : Graph} {before depths stack : List ℕ} {height 
         let n : known depths″ ≤ 4096 = omega (arith, known-most depths″, jump-effect .cells) in
         omega (arith, fall-effect .count, jump-effect .count)
 
+-- the same graph, entered at another offset: a visit does not look at the entry
+abbrev pub from : ℕ → Graph → Graph
+from o g = record { entry = o; falls = g .falls; jumps = g .jumps; pops = g .pops; pushes = g .pushes }
+
 -- what a visit by the code asks
 pub ready : {g : Graph} {before depths stack : List ℕ} {height : ℕ} {agree : Bool} → Exploring middle 255 g before Nothing depths stack height agree →
-    ((x : ℕ) → Reached g x → x < 4096) → 1 ≤ height → (o : ℕ) → getD stack (height - 1) 0 ≡ o → Ready g depths (height - 1) o
+    ((x : ℕ) → Reached g x → x < 4096) → 1 ≤ height → (o : ℕ) → getD stack (height - 1) 0 ≡ o → Ready (from o g) depths (height - 1) o
 ready s inside some o top =
     let range = in-range s inside some o top in
     record {

@@ -14,7 +14,7 @@ use crate::writing::push_bytes;
 use crate::writing::push_decimal;
 use crate::writing::push_text;
 use crate::writing::push_word;
-use checker::Verdict;
+use rules::Verdict;
 use decoder::decode;
 use image::Layout;
 use stm8::Decoded;

@@ -1,6 +1,6 @@
 -- What every outcome of a check has: the marks after a refusal, the cells past the code, and the refusal's number and offset.
 use Prim.Native.Nat.{ℕ, _+_, _-_, _<_, _≤_}
-use mathlib.Core.Path.{_≡_, refl, ap, _∙_}
+use mathlib.Core.Path.{_≡_, refl, sym, ap, _∙_}
 use mathlib.Core.Logic.{⊎-elim}
 use mathlib.Core.List.{List, _++_}
 use native.Mathlib.Omega.{arith}
@@ -25,46 +25,41 @@ validation-refused image limits {number} e =
     let given = answer-refused (refusal image limits) (layoutOf image) number e in
     not-zero (rw (given .0) at (validation-number image limits)) (given .1)
 
-module _ (size : ℕ) (before : List ℕ) where
-  cleared : List ℕ
-  cleared = replicate size 0 ++ drop size before
+-- marks of the code, with the cells past the code as they were
+module _ (image before front : List ℕ) (size : length front ≡ sizeOf image) where
+  pub front-mark : (o : ℕ) → o < sizeOf image → getD (front ++ drop (sizeOf image) before) o 0 ≡ getD front o 0
+  front-mark o below = List·getD-append front (drop (sizeOf image) before) 0 o (omega arith)
 
-  cleared-below : (o : ℕ) → o < size → getD cleared o 0 ≡ 0
-  unfolding cleared
-  cleared-below o below =
-      List·getD-append (replicate size 0) (drop size before) 0 o (omega (arith, length-replicate {A = ℕ} size 0)) ∙ getD-replicate size o 0 0 below
-
-  cleared-size : size ≤ length before → length cleared ≡ length before
-  unfolding cleared
-  cleared-size enough =
-      length-append (replicate size 0) (drop size before) ∙ omega (arith, length-replicate {A = ℕ} size 0, length-drop size before)
-
-  cleared-past : (o : ℕ) → size ≤ o → getD cleared o 0 ≡ getD before o 0
-  unfolding cleared
-  cleared-past o past =
-      let at : o ≡ length (replicate {A = ℕ} size 0) + (o - size) = omega (arith, length-replicate {A = ℕ} size 0) in
-      let there : size + (o - size) ≡ o = omega arith in
-      ap (λ k. getD (replicate size 0 ++ drop size before) k 0) at ∙
-      getD-append-add (replicate size 0) (drop size before) (o - size) 0 ∙
-      getD-drop size before (o - size) 0 ∙ ap (λ k. getD before k 0) there
+  pub front-past : sizeOf image ≤ length before → PastCode image before (front ++ drop (sizeOf image) before)
+  front-past enough =
+      record {
+        size = omega (arith, length-append front (drop (sizeOf image) before), length-drop (sizeOf image) before);
+        cells = λ o past.
+            let at : length front + (o - sizeOf image) ≡ o = omega arith in
+            let back : sizeOf image + (o - sizeOf image) ≡ o = omega arith in
+            ap (λ k. getD (front ++ drop (sizeOf image) before) k 0) (sym at) ∙
+            getD-append-add front (drop (sizeOf image) before) (o - sizeOf image) 0 ∙
+            getD-drop (sizeOf image) before (o - sizeOf image) 0 ∙ ap (λ k. getD before k 0) back;
+      }
 
 module _ {image : List ℕ} {limits : Limits} {before : List ℕ} where
   pub past-code : {v : Verdict} {after : List ℕ} → Outcome image limits before v after → PastCode image before after
-  unfolding cleared
   past-code (invalid e) = record { size = refl; cells = λ o past. refl }
   past-code (few v short) = record { size = refl; cells = λ o past. refl }
-  past-code (refused v enough x) = record { size = cleared-size (sizeOf image) before enough; cells = cleared-past (sizeOf image) before }
+  past-code (refused v enough x) = front-past image before (replicate (sizeOf image) 0) (length-replicate {A = ℕ} (sizeOf image) 0) enough
   past-code (accepted h marks past) = past
 
   pub refused-marks : {n o : ℕ} {after : List ℕ} → Outcome image limits before (Refused n o) after → RefusedMarks image before after n
-  unfolding cleared
   refused-marks (invalid e) =
       let number = validation-refused image limits e in
       record { cleared = λ six. absurd (omega arith); kept = λ five. refl }
   refused-marks (few v short) = record { cleared = λ six. absurd (omega arith); kept = λ five. refl }
   refused-marks (refused v enough x) =
       let number = refusal-number x in
-      record { cleared = λ six. cleared-below (sizeOf image) before; kept = λ five. absurd (omega arith) }
+      record {
+        cleared = λ six o below. front-mark image before (replicate (sizeOf image) 0) (length-replicate {A = ℕ} (sizeOf image) 0) o below ∙ getD-replicate (sizeOf image) o 0 0 below;
+        kept = λ five. absurd (omega arith);
+      }
 
   pub refused-as : {n o : ℕ} {after : List ℕ} → Outcome image limits before (Refused n o) after → RefusedAs n o
   refused-as (invalid e) =

@@ -1,4 +1,4 @@
--- Of the marks that a check may leave on acceptance, or after a refusal of the code, there are one list each.
+-- Acceptance leaves one list of marks: they go by the depths at starts, and past the code by what was there.
 use Prim.Native.Nat.{ℕ, _<_}
 use mathlib.Core.Path.{_≡_, sym, _∙_}
 use mathlib.Core.Logic.{⊎-elim, by-cases}
@@ -11,7 +11,6 @@ use Rattle.image.specs.Image.{countOf, sizeOf}
 use Rattle.rules.specs.Code.{Start}
 use Rattle.rules.specs.Acceptance.{AcceptedMarks, PastCode}
 
--- acceptance is told by the depths at starts
 module _ {image : List ℕ} {depth depth′ : ℕ → ℕ} (deep : (r o : ℕ) → r < countOf image → Start image r o → depth o ≡ depth′ o) where
   module _ {after after′ : List ℕ} (marks : AcceptedMarks image depth after) (marks′ : AcceptedMarks image depth′ after′) where
     at-start : (r o : ℕ) → r < countOf image → Start image r o → getD after o 0 ≡ getD after′ o 0

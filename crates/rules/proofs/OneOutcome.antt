@@ -84,6 +84,14 @@ pub one-outcome : {image : List ℕ} {limits : Limits} {before : List ℕ} {v v�
     Outcome image limits before v after → Outcome image limits before v′ after′ → (v ≡ v′) × (after ≡ after′)
 one-outcome x x′ = let agree = outcomes-agree (λ h. h, λ h. h) x x′ in (agree .0, agree .1 refl)
 
+-- where the rules hold and the marks are enough, the verdict is acceptance
+pub acceptable-verdict : {image : List ℕ} {limits : Limits} {before : List ℕ} {need count : ℕ} {v : Verdict} {after : List ℕ} →
+    Acceptable image limits before need count → Outcome image limits before v after → v ≡ Accepted need count
+acceptable-verdict {image} {limits} h (invalid e) = absurd (rules-checked image limits (h .rules) e)
+acceptable-verdict h (few v short) = absurd (omega (arith, h .enough))
+acceptable-verdict h (refused v enough x) = absurd (rules-stand (h .rules) x)
+acceptable-verdict h (accepted h′ marks past) = one-acceptance h′ h
+
 pub same-verdict : {image : List ℕ} {limits : Limits} {before before′ : List ℕ} {v v′ : Verdict} {after after′ : List ℕ} →
     (sizeOf image ≤ length before) ↔ (sizeOf image ≤ length before′) →
     Outcome image limits before v after → Outcome image limits before′ v′ after′ → v ≡ v′

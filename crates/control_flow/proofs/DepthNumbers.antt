@@ -110,3 +110,15 @@ module _ (bias held falls jumps pops pushes store call : ℕ) where
   pub depth-test : DepthTest (depthNumber bias held falls jumps pops pushes store call)
   unfolding depthNumber
   depth-test = tested (failing _)
+
+-- what it means that none of them comes
+pub depth-passes : (bias held falls jumps pops pushes store call : ℕ) → depthNumber bias held falls jumps pops pushes store call ≡ 0 →
+    Inside bias held falls jumps pops pushes store call × (bias + store ≤ held) × (call ≤ 32)
+depth-passes bias held falls jumps pops pushes store call e = go (depth-test bias held falls jumps pops pushes store call) e
+  where
+    go : {number : ℕ} → DepthTest bias held falls jumps pops pushes store call number → number ≡ 0 →
+        Inside bias held falls jumps pops pushes store call × (bias + store ≤ held) × (call ≤ 32)
+    go (outside out) z = absurd (omega arith)
+    go (denied i s) z = absurd (omega arith)
+    go (lost i s c) z = absurd (omega arith)
+    go (allowed i s c) z = (i, s, c)
