@@ -1,12 +1,12 @@
 -- The decode pass: what one start gives, and what the starts so far have left.
 use Prim.Native.Nat.{ℕ, _+_, _<_, _≤_}
-use mathlib.Core.Path.{_≡_, refl, sym, ap, _∙_, subst}
-use mathlib.Core.Logic.{_⊎_, inl, inr, ⊎-elim, by-cases}
+use mathlib.Core.Path.{_≡_, refl, sym, _∙_}
+use mathlib.Core.Logic.{inl, inr, ⊎-elim, by-cases}
 use mathlib.Core.Bool.{Bool, true, false}
 use mathlib.Core.List.{List, [], _∷_}
 use native.Mathlib.Decide.{ℕ-discrete, decLt}
 use native.Mathlib.Omega.{arith}
-use lib.ListN.{length, getD, set, length-set}
+use lib.ListN.{set, length-set}
 use lib.Seq.{getD-set-same, getD-set-other}
 use Rattle.stm8.specs.Decoding.{decodingNumber}
 use Rattle.stm8.specs.Effects.{effect}
@@ -19,11 +19,13 @@ use Rattle.image.specs.Image.{startOf, endOf}
 use Rattle.image.specs.declared.Limits.{Limits}
 use Rattle.rules.specs.Depth.{popped, pushed, falls}
 use Rattle.rules.specs.Code.{instructionAt, Start, begins, follows}
-use Rattle.rules.specs.Refusal.{CodeFault, outside, cut, off, Lowest}
+use Rattle.rules.specs.Refusal.{CodeFault, outside, cut, off}
 use Rattle.rules.proofs.Starts.{found-inside, start-low, start-high, next-start}
 use Rattle.control_flow.specs.Routine as cells
-use Rattle.acceptance.specs.Cells.{fallCell, jumpCell, storeCell, callCell, Stored, Filled}
-use Rattle.checker.specs.Internal.{RoutineOf, OffEnd, cellsOf, Sized, SameCells, CellsStored, StartDecoded, faulty, whole, DecodedTo, RoutineDecoded, refused, filled}
+use Rattle.acceptance.specs.Cells.{fallCell, jumpCell, storeCell, callCell, Stored}
+use Rattle.acceptance.proofs.CodeFaults.{code-lowest}
+use Rattle.checker.specs.Internal.{RoutineOf, OffEnd, cellsOf, Sized, SameCells, CellsStored}
+use Rattle.checker.specs.Internal.{StartDecoded, faulty, whole, DecodedTo, RoutineDecoded, refused, filled}
 use Rattle.checker.specs.declared.decoding.Routine.{Routine}
 
 -- where control does not fall it falls off nothing
@@ -54,16 +56,20 @@ module _ (at : ℕ) {starts falls jumps pops pushes stores calls : List ℕ} (si
         calls-cells = length-set calls at g ∙ sized .calls-cells;
       }
 
-  pub cells-stored : (inside : at < 4096) {image : List ℕ} {r : Routine} {next : ℕ} {e : Effect} → RoutineOf image r → {fall jump pop push store call : ℕ} →
+  pub cells-stored : (inside : at < 4096) {image : List ℕ} {r : Routine} {next : ℕ} {e : Effect} → RoutineOf image r →
+      {fall jump pop push store call : ℕ} →
       fall ≡ fallCell (e .flow) next → jump ≡ jumpCell (r .base) (r .start) (r .end) next (e .flow) → pop ≡ popped e → push ≡ pushed e →
       store ≡ storeCell (r .limits) (e .place) → call ≡ callCell image (r .index) next (e .flow) →
       CellsStored image (r .limits) (r .index) at next e (cellsOf r starts falls jumps pops pushes stores calls)
-      (cellsOf r (set starts at 1) (set falls at fall) (set jumps at jump) (set pops at pop) (set pushes at push) (set stores at store) (set calls at call))
+      (cellsOf r (set starts at 1) (set falls at fall) (set jumps at jump) (set pops at pop) (set pushes at push) (set stores at store)
+      (set calls at call))
   cells-stored inside {image} {r} {next} {e} routine {fall} {jump} {pop} {push} {store} {call} fall-is jump-is pop-is push-is store-is call-is =
       record {
         start = getD-set-same starts at 1 0 (omega (arith, sized .starts-cells));
         fall = getD-set-same falls at fall 0 (omega (arith, sized .falls-cells)) ∙ fall-is;
-        jump = getD-set-same jumps at jump 0 (omega (arith, sized .jumps-cells)) ∙ rw (← routine .base-is, ← routine .start-is, ← routine .end-is) jump-is;
+        jump =
+            getD-set-same jumps at jump 0 (omega (arith, sized .jumps-cells)) ∙
+            rw (← routine .base-is, ← routine .start-is, ← routine .end-is) jump-is;
         pop = getD-set-same pops at pop 0 (omega (arith, sized .pops-cells)) ∙ pop-is;
         push = getD-set-same pushes at push 0 (omega (arith, sized .pushes-cells)) ∙ push-is;
         store = getD-set-same stores at store 0 (omega (arith, sized .stores-cells)) ∙ store-is;
@@ -85,21 +91,24 @@ pub start-below : {image : List ℕ} {r : Routine} {at : ℕ} → RoutineOf imag
 start-below {image} {r} routine s =
     omega (arith, start-high image (r .index) (omega (arith, routine .some, routine .start-is, routine .end-is)) s, routine .end-is)
 
+-- what the decoder's tag says where it finds none
+abbrev NoInstruction : Decoded → Type 0
+NoInstruction d = types.Run.OneOf (1 ∷ 2 ∷ []) (denote.Enum.Declared.tagOf Rattle.stm8.proofs.Decoded.the-type d)
+
 -- the three ways through a start, with each value as a variable
 module _ {image : List ℕ} {r : Routine} {at : ℕ} {x x′ : cells.Routine} (start : Start image (r .index) at) where
-  undecoded : (d : Decoded) → instructionAt image (r .index) at ≡ d →
-      types.Run.OneOf (1 ∷ 2 ∷ []) (denote.Enum.Declared.tagOf Rattle.stm8.proofs.Decoded.the-type d) → StartDecoded image r at x x′ (decodingNumber d) at
+  undecoded : (d : Decoded) → instructionAt image (r .index) at ≡ d → NoInstruction d → StartDecoded image r at x x′ (decodingNumber d) at
   undecoded (Found i n) e k = absurd (⊎-elim (λ z. omega arith) (λ z. omega arith) k)
   undecoded Outside e k = faulty (outside start e)
   undecoded Truncated e k = faulty (cut start e)
 
-  pub start-undecoded : {number : ℕ} (d : Decoded) → d ≡ instructionAt image (r .index) at →
-      types.Run.OneOf (1 ∷ 2 ∷ []) (denote.Enum.Declared.tagOf Rattle.stm8.proofs.Decoded.the-type d) → number ≡ decodingNumber d →
+  pub start-undecoded : {number : ℕ} (d : Decoded) → d ≡ instructionAt image (r .index) at → NoInstruction d → number ≡ decodingNumber d →
       StartDecoded image r at x x′ number at
   start-undecoded d e k number-is = rw number-is (undecoded d (sym e) k)
 
-  module _ (routine : RoutineOf image r) {d : Decoded} {i : Instruction} {n : ℕ} {e : Effect} {past : Bool} (d-is : d ≡ instructionAt image (r .index) at)
-      (found : d ≡ Found i n) (effect-is : e ≡ effect i) (ends : OffEnd (r .end) (at + n) (e .flow) past) where
+  module _ (routine : RoutineOf image r) {d : Decoded} {i : Instruction} {n : ℕ} {e : Effect} {past : Bool}
+      (d-is : d ≡ instructionAt image (r .index) at) (found : d ≡ Found i n) (effect-is : e ≡ effect i)
+      (ends : OffEnd (r .end) (at + n) (e .flow) past) where
     pub start-off : past ≡ true → StartDecoded image r at x x′ 15 at
     start-off t =
         let p = ends .past t in
@@ -187,23 +196,14 @@ module _ {image : List ℕ} {r : Routine} {x : cells.Routine} {at : ℕ} (to : D
       let w = found-inside image (r .index) at found in
       (grown found inside c, omega (arith, w .0), omega (arith, w .1, routine .end-is))
 
-  -- what is stored passes
-  passes : {o n : ℕ} → o < at → CodeFault image (r .index) o n → ⊥
-  passes {o} low (outside s f) = let g = to .stored o s low .1 .found in let z : _≡_ {A = ℕ} 0 1 = cc in omega arith
-  passes {o} low (cut s f) = let g = to .stored o s low .1 .found in let z : _≡_ {A = ℕ} 0 1 = cc in omega arith
-  passes {o} low (off {n = n} {i} s f t past) =
-      let h = to .stored o s low .1 in
-      let same : i ≡ h .instruction = (let g = h .found in cc) in
-      let size : n ≡ h .size = (let g = h .found in cc) in
-      omega (arith, h .inside (rw (← same) t))
-
   pub refused-here : {x′ : cells.Routine} {number next : ℕ} → StartDecoded image r at x x′ number next → (number ≡ 0 → ⊥) →
       RoutineDecoded image r x′ number next
-  refused-here (faulty f) not = refused (record { fault = f; lowest = λ o n low g. passes low g })
+  refused-here (faulty f) not = refused (code-lowest f (λ o s low. to .stored o s low .1))
   refused-here (whole found inside c) not = absurd (not refl)
 
-pub all-decoded : {image : List ℕ} {r : Routine} {x : cells.Routine} {number at : ℕ} → RoutineOf image r → x .graph .entry ≡ r .start → x .end ≡ r .end →
-    DecodedTo image (r .limits) (r .index) x at → at ≡ r .end → number ≡ 0 → RoutineDecoded image r x number at
+pub all-decoded : {image : List ℕ} {r : Routine} {x : cells.Routine} {number at : ℕ} → RoutineOf image r →
+    x .graph .entry ≡ r .start → x .end ≡ r .end → DecodedTo image (r .limits) (r .index) x at → at ≡ r .end → number ≡ 0 →
+    RoutineDecoded image r x number at
 all-decoded {image} {r} {at = at} routine entry-is end-is to ended none =
     let high : (o : ℕ) → Start image (r .index) o → o < at =
     λ o s. omega (arith, start-below routine s) in

@@ -1,5 +1,5 @@
 -- The routines of a valid image, one after the other.
-use Prim.Native.Nat.{ℕ, zero, suc, _+_, _*_, _<_, _≤_}
+use Prim.Native.Nat.{ℕ, zero, suc, _+_, _<_, _≤_}
 use mathlib.Core.Path.{_≡_, refl, sym, ap, _∙_, subst}
 use mathlib.Core.Logic.{⊎-elim}
 use mathlib.Core.Bool.{Bool, true, false}
@@ -19,24 +19,23 @@ use Rattle.image.proofs.Measuring.{start-zero, start-next, start-inside, end-in
 use Rattle.image.proofs.Validity.{valid-rules}
 use Rattle.rules.specs.Code.{Start}
 use Rattle.rules.specs.Rules.{countBelow}
-use Rattle.rules.specs.Refusal.{RoutineRefusal}
 use Rattle.rules.proofs.RefusalNumbers.{routine-refusal-at}
 use Rattle.control_flow.specs.Routine as cells
-use Rattle.control_flow.specs.Outcome.{FlowOutcome}
 use Rattle.control_flow.specs.Exploring.{Checkable, Left}
 use Rattle.acceptance.specs.Cells.{Filled}
 use Rattle.acceptance.specs.Passed.{marked, RoutineChecked, RoutinesPassed}
 use Rattle.acceptance.proofs.Graphs.{decoded}
-use Rattle.acceptance.proofs.OneRoutine.{code-refused, checked-refused, checked-passed, filled-checked}
+use Rattle.acceptance.proofs.OneRoutine.{code-refused, checked-refused, checked-passed}
 use Rattle.acceptance.proofs.AllRoutines.{zeros-at, none-yet, one-more}
 use Rattle.acceptance.proofs.NeedBounds.{need-bound, no-needs, needs-bound}
-use Rattle.checker.specs.Internal.{Begins, RoutineOf, cellsOf, Sized, RoutineDecoded, refused, filled, Clean, NeedsBelow, Swept, ended, stopped, Small}
+use Rattle.checker.specs.Internal.{Begins, RoutineOf, Sized, RoutineDecoded, refused, filled, Clean, NeedsBelow, Swept, ended, stopped, Small}
 use Rattle.checker.specs.declared.decoding.Routine.{Routine}
 use Rattle.checker.specs.declared.sweep.Sweep.{Sweep}
 use Rattle.checker.proofs.DecodePass.{fault-some, start-below}
 
 -- where one routine more begins
-pub begins-more : (image begins : List ℕ) (k at : ℕ) → k < length begins → at ≡ startOf image k → Begins image begins k → Begins image (set begins k at) (k + 1)
+pub begins-more : (image begins : List ℕ) (k at : ℕ) → k < length begins → at ≡ startOf image k → Begins image begins k →
+    Begins image (set begins k at) (k + 1)
 begins-more image begins k at inside e before =
     below-more (λ j. getD (set begins k at) j 0 ≡ startOf image j) k
     (λ j h. getD-set-other begins k j at 0 (λ z. omega arith) ∙ before j h)
@@ -87,7 +86,8 @@ module _ {image : List ℕ} {r : Routine} {x : cells.Routine} where
 
 -- what it is checked with, before and after
 module _ {image : List ℕ} {r : Routine} (routine : RoutineOf image r) {starts falls jumps pops pushes stores calls depths stack : List ℕ}
-    (clean : Clean (r .start) starts falls jumps pops pushes stores calls depths stack) {x : cells.Routine} (f : Filled image (r .limits) (r .index) x) where
+    (clean : Clean (r .start) starts falls jumps pops pushes stores calls depths stack) {x : cells.Routine}
+    (f : Filled image (r .limits) (r .index) x) where
   pub checkable : {needs : List ℕ} → length needs ≡ 32 → Checkable x depths stack needs
   checkable held =
       record {
@@ -98,8 +98,8 @@ module _ {image : List ℕ} {r : Routine} (routine : RoutineOf image r) {starts 
         held = held;
       }
 
-  pub clean-after : {starts′ falls′ jumps′ pops′ pushes′ stores′ calls′ depths′ stack′ : List ℕ} → Sized starts′ falls′ jumps′ pops′ pushes′ stores′ calls′ →
-      ((o : ℕ) → r .end ≤ o → getD starts′ o 0 ≡ 0) → Left x depths depths′ stack′ →
+  pub clean-after : {starts′ falls′ jumps′ pops′ pushes′ stores′ calls′ depths′ stack′ : List ℕ} →
+      Sized starts′ falls′ jumps′ pops′ pushes′ stores′ calls′ → ((o : ℕ) → r .end ≤ o → getD starts′ o 0 ≡ 0) → Left x depths depths′ stack′ →
       Clean (r .end) starts′ falls′ jumps′ pops′ pushes′ stores′ calls′ depths′ stack′
   clean-after sized clear left =
       record {
@@ -199,8 +199,8 @@ module _ {image : List ℕ} {limits : Limits} {layout : Layout} (valid : validat
           let refusal = checked-refused here not in
           let start : Start image (r .index) at = rw (is .0) (routine-refusal-at refusal .start) in
           let low = start-below routine start in (
-            stopped {given = marks} (λ z. not (sym (e .0) ∙ z)) (omega (arith, e .2, is .0, routine .inside)) (rw (e .2, e .3, e .4) (between .passed))
-                (rw (e .0, e .1, e .2) refusal),
+            stopped {given = marks} (λ z. not (sym (e .0) ∙ z)) (omega (arith, e .2, is .0, routine .inside))
+                (rw (e .2, e .3, e .4) (between .passed)) (rw (e .0, e .1, e .2) refusal),
             record {
               at = omega (arith, e .1, low, routine .size);
               count = omega (arith, e .3, is .1, few-starts routine routine-ready, routine .some, routine .size);

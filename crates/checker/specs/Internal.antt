@@ -85,7 +85,8 @@ pub record CellsStored (image : List ℕ) (limits : Limits) (r at next : ℕ) (e
 -- One start: 8, 9 or 15, or its cells are stored and the next offset is known.
 pub data StartDecoded (image : List ℕ) (r : Routine) (at : ℕ) (x x′ : cells.Routine) : ℕ → ℕ → Type 0 where
   faulty : {number : ℕ} → CodeFault image (r .index) at number → StartDecoded image r at x x′ number at
-  whole : {i : Instruction} {n : ℕ} → instructionAt image (r .index) at ≡ Found i n → (falls (effect i .flow) ≡ true → at + n < endOf image (r .index)) →
+  whole : {i : Instruction} {n : ℕ} → instructionAt image (r .index) at ≡ Found i n →
+      (falls (effect i .flow) ≡ true → at + n < endOf image (r .index)) →
       CellsStored image (r .limits) (r .index) at (at + n) (effect i) x x′ → StartDecoded image r at x x′ 0 (at + n)
 
 -- the starts of routine r below an offset are decoded and stored, and from there on nothing is a start yet

@@ -178,7 +178,8 @@ pub(crate) fn decode_routine(
     calls: &mut [u8; 4096],
 ) -> Pass
     requires { ⌜ RoutineOf (now image) r × Tables (now plain) (now after_72) (now after_90) × Begins (now image) (now begins) (r .index)
-        × Sized (now starts) (now falls) (now jumps) (now pops) (now pushes) (now stores) (now calls) × ((o : ℕ) → r .start ≤ o → getD (now starts) o 0 ≡ 0) ⌝ }
+        × Sized (now starts) (now falls) (now jumps) (now pops) (now pushes) (now stores) (now calls)
+        × ((o : ℕ) → r .start ≤ o → getD (now starts) o 0 ≡ 0) ⌝ }
     ensures { λ p. ⌜ RoutineDecoded (now (image .entry)) r
         (cellsOf r (now (starts .exit)) (now (falls .exit)) (now (jumps .exit))
         (now (pops .exit)) (now (pushes .exit)) (now (stores .exit)) (now (calls .exit))) (p .refusal) (p .at) ⌝ }

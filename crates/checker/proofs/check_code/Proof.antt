@@ -32,7 +32,8 @@ sweep-routines-requires c κs =
 verdict-of-requires : tie.Need-verdict-of-requires
 verdict-of-requires c κs =
     let s = c .before .before in
-    let bounds = valid-bounds _ _ _ (s .before .before .before .before .before .before .before .before .before .before .before .before .before .before .before .before .pre .0) in
+    let z = s .before .before .before .before .before .before .before .before .before .before .before .before in
+    let bounds = valid-bounds _ _ _ (z .before .before .before .before .pre .0) in
     (bounds .count .0, bounds .count .1, s .sweep-routines .ensures .1)
 
 returns : tie.Need-returns
@@ -40,8 +41,10 @@ returns c =
     let s = c .before .before .before .before .before .before .before in
     let z = s .before .before .before .before .before .before .before .before .before .before .before .before in
     let p = z .before .before .before .before .pre in
-    let size = s .sweep-routines .kept .1 .1 .1 .1 .1 .1 .1 .0 ∙ ap length (z .clear .ensures) ∙ length-replicate _ 0 ∙ p .1 ∙ size-is _ _ _ (p .0) in
-    code-outcome (p .0) _ size (s .sweep-routines .ensures .0) (c .before .before .before .before .verdict-of .ensures) (c .before .before .clear-refused .ensures)
+    let kept = s .sweep-routines .kept .1 .1 .1 .1 .1 .1 .1 .0 in
+    let size = kept ∙ ap length (z .clear .ensures) ∙ length-replicate _ 0 ∙ p .1 ∙ size-is _ _ _ (p .0) in
+    code-outcome (p .0) _ size (s .sweep-routines .ensures .0) (c .before .before .before .before .verdict-of .ensures)
+    (c .before .before .clear-refused .ensures)
 
 pub check-code-spec : {M : Type 1} → statement M
 check-code-spec =

@@ -21,7 +21,8 @@ add-next c =
     let d = c .before .before in
     let s = d .before .before .before .before in
     let routine = s .pre .0 in
-    let inside = found-inside (now (s .args .image)) (s .args .r .index) (s .args .at) (sym (d .before .before .decode-at .ensures) ∙ d .d .given .1) in
+    let found = sym (d .before .before .decode-at .ensures) ∙ d .d .given .1 in
+    let inside = found-inside (now (s .args .image)) (s .args .r .index) (s .args .at) found in
     omega (arith, inside .1, routine .end-is, routine .size)
 
 returns-2 : tie.Need-returns-2
@@ -40,7 +41,8 @@ store-cells-requires c κs =
     let d = e .before .before in
     let s = d .before .before .before .before in
     let routine = s .pre .0 in
-    let inside = found-inside (now (s .args .image)) (s .args .r .index) (s .args .at) (sym (d .before .before .decode-at .ensures) ∙ d .d .given .1) in (
+    let found = sym (d .before .before .decode-at .ensures) ∙ d .d .given .1 in
+    let inside = found-inside (now (s .args .image)) (s .args .r .index) (s .args .at) found in (
       omega (arith, start-below routine (s .pre .1), routine .size),
       omega (arith, inside .1, routine .end-is, routine .size),
       omega (arith, routine .some, routine .size),

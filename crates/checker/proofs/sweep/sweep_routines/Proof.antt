@@ -1,4 +1,5 @@
--- `checker::sweep::sweep_routines` meets its contract. The loop's invariant: the routines so far pass, and from the next one on nothing is a start yet.
+-- `checker::sweep::sweep_routines` meets its contract. The loop's invariant: the routines so far pass, and from the next one on nothing is a start
+-- yet.
 use Prim.Native.Nat.{ℕ, _-_}
 use mathlib.Core.Path.{sym, ap, _∙_}
 use native.Mathlib.Omega.{arith}
@@ -41,7 +42,8 @@ check-routine-requires c κs =
 same-length : tie.Need-same-length Inv-loop μ-loop
 same-length c =
     let x = c .before .before .before .before .before in
-    let l = x .before .before .before .before .before .before .before .before .before .before .before .before .before .before .before .before .before in
+    let r = x .before .before .before .before .before .before .before .before .before .before .before .before .before in
+    let l = r .before .before .before .before in
     x .check-routine .kept .1 .1 .1 .1 .1 .1 .1 .1 .1 .1 .1 .1 .1 .1 .1 .1 .1 .0 ∙ l .loop .inv .0 .passed .size ∙
     sym (ap length (l .before .before .before .before .pre .3) ∙ length-replicate {A = ℕ} _ 0)
 
@@ -50,8 +52,8 @@ returns c =
     let x = c .before .before .before .before .before in
     let r = x .before .before .before .before .before .before .before .before .before .before .before .before .before in
     let l = r .before .before .before .before in
-    swept-stopped (l .before .before .before .before .pre .0) (l .loop .inv .0) (r .routine-at .ensures .0) (r .routine-at .ensures .1) (x .check-routine .ensures .0)
-    (c .before .if2 .taken) (c .stopped .ensures)
+    swept-stopped (l .before .before .before .before .pre .0) (l .loop .inv .0) (r .routine-at .ensures .0) (r .routine-at .ensures .1)
+    (x .check-routine .ensures .0) (c .before .if2 .taken) (c .stopped .ensures)
 
 closed-requires : tie.Need-closed-requires Inv-loop μ-loop
 closed-requires c κs =
@@ -65,15 +67,18 @@ closed-requires c κs =
     )
 
 loop-less : tie.Need-loop-less Inv-loop μ-loop
-loop-less c = omega (arith, c .closed .ensures .2, c .before .before .before .before .before .before .before .before .before .before .before .before .before .before .before .before .before .before .before .if1 .taken)
+loop-less c =
+    let x = c .before .before .before .before .before in
+    let r = x .before .before .before .before .before .before .before .before .before .before .before .before .before in
+    omega (arith, c .closed .ensures .2, r .before .if1 .taken)
 
 loop-again : tie.Need-loop-again Inv-loop μ-loop
 loop-again c =
     let x = c .before .before .before .before .before in
     let r = x .before .before .before .before .before .before .before .before .before .before .before .before .before in
     let l = r .before .before .before .before in (
-      between-more (l .before .before .before .before .pre .0) (l .loop .inv .0) (r .routine-at .ensures .0) (r .routine-at .ensures .1) (x .check-routine .ensures .0)
-          (c .before .if2 .left) (c .closed .ensures),
+      between-more (l .before .before .before .before .pre .0) (l .loop .inv .0) (r .routine-at .ensures .0) (r .routine-at .ensures .1)
+          (x .check-routine .ensures .0) (c .before .if2 .left) (c .closed .ensures),
       rw (c .closed .ensures .1) (x .check-routine .ensures .1 (c .before .if2 .left)),
     )
 
