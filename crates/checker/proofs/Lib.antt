@@ -2,3 +2,4 @@ pub mod Bytes
 pub mod Callees
 pub mod DecodePass
 pub mod Routines
+pub mod Verdicts

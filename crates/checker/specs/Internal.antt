@@ -140,7 +140,6 @@ abbrev pub codeMarks : Verdict → List ℕ → List ℕ
 codeMarks (Accepted need count) marks = marks
 codeMarks (Refused number offset) marks = replicate (length marks) 0
 
--- the outcome for a valid image, whose code marks end so; cells past the code never change
-abbrev pub CodeOutcome : List ℕ → Limits → Verdict → List ℕ → Type 0
-CodeOutcome image limits v marks =
-    (before : List ℕ) → sizeOf image ≤ length before → Outcome image limits before v (marks ++ drop (sizeOf image) before)
+-- The outcome for a valid image, whose code marks end so: cells past the code never change.
+pub record CodeOutcome (image : List ℕ) (limits : Limits) (v : Verdict) (marks : List ℕ) : Type 0 where
+  pub whole : (before : List ℕ) → sizeOf image ≤ length before → Outcome image limits before v (marks ++ drop (sizeOf image) before)

@@ -1,68 +1,59 @@
+-- `checker::check_code` meets its contract.
+use mathlib.Core.Path.{ap, _∙_}
+use native.Mathlib.Omega.{arith}
+use lib.ListN.{length, replicate, length-replicate}
+use Rattle.image.proofs.Layouts.{valid-bounds, count-is, size-is}
+use Rattle.checker.proofs.Verdicts.{code-outcome}
 use borrow.Author.Needs.{needs}
 use Rattle.checker.proofs.check_code.Statement.{statement}
 use Rattle.checker.proofs.check_code.Tie as tie
-use Rattle.checker.proofs.check_code.Reads as reads
-use Rattle.checker.proofs.check_code.Lts as lts
-use Rattle.checker.proofs.clear_refused.Reads as clear-refused-reads
-use Rattle.checker.proofs.marks.clear.Reads as clear-reads
-use Rattle.checker.proofs.routine_begins.Reads as routine-begins-reads
-use Rattle.checker.proofs.sweep.sweep_routines.Reads as sweep-routines-reads
-use Rattle.checker.proofs.verdict_of.Reads as verdict-of-reads
-use Rattle.stm8.proofs.after_72_lengths.Reads as after-72-lengths-reads
-use Rattle.stm8.proofs.after_90_lengths.Reads as after-90-lengths-reads
-use Rattle.stm8.proofs.plain_lengths.Reads as plain-lengths-reads
 
--- src/lib.rt:76:5
-clear-requires : tie.Need-clear-requires
-clear-requires c κs = search needs
-
--- src/lib.rt:77:17
-plain-lengths-requires : tie.Need-plain-lengths-requires
-plain-lengths-requires c κs = search needs
-
--- src/lib.rt:78:20
-after-72-lengths-requires : tie.Need-after-72-lengths-requires
-after-72-lengths-requires c κs = search needs
-
--- src/lib.rt:79:20
-after-90-lengths-requires : tie.Need-after-90-lengths-requires
-after-90-lengths-requires c κs = search needs
-
--- src/lib.rt:80:18
 routine-begins-requires : tie.Need-routine-begins-requires
-routine-begins-requires c κs = ?
+routine-begins-requires c κs =
+    let valid = c .before .before .before .before .before .before .before .before .before .pre .0 in
+    let bounds = valid-bounds _ _ _ valid in
+    (count-is _ _ _ valid, bounds .count .1, omega (arith, bounds .size .1, size-is _ _ _ valid))
 
--- src/lib.rt:81:9
 sweep-routines-requires : tie.Need-sweep-routines-requires
-sweep-routines-requires c κs = ?
+sweep-routines-requires c κs =
+    let r = c .before .before .before .before .before in
+    let z = r .before .before .before .before .before .before in
+    let p = z .before .before .before .before .pre in (
+      p .0,
+      record {
+        plain-is = r .before .before .before .plain-lengths .ensures;
+        after72-is = r .before .before .after-72-lengths .ensures;
+        after90-is = r .before .after-90-lengths .ensures;
+      },
+      r .routine-begins .ensures,
+      z .clear .ensures ∙ ap (λ n. replicate n 0) (p .1 ∙ size-is _ _ _ (p .0)),
+    )
 
--- src/lib.rt:91:9
 verdict-of-requires : tie.Need-verdict-of-requires
-verdict-of-requires c κs = ?
+verdict-of-requires c κs =
+    let s = c .before .before in
+    let bounds = valid-bounds _ _ _ (s .before .before .before .before .before .before .before .before .before .before .before .before .before .before .before .before .pre .0) in
+    (bounds .count .0, bounds .count .1, s .sweep-routines .ensures .1)
 
--- src/lib.rt:92:5
-clear-refused-requires : tie.Need-clear-refused-requires
-clear-refused-requires c κs = search needs
-
--- src/lib.rt:72:1
-same-length : tie.Need-same-length
-same-length c = search needs
-
--- src/lib.rt:72:1
 returns : tie.Need-returns
-returns c = ?
+returns c =
+    let s = c .before .before .before .before .before .before .before in
+    let z = s .before .before .before .before .before .before .before .before .before .before .before .before in
+    let p = z .before .before .before .before .pre in
+    let size = s .sweep-routines .kept .1 .1 .1 .1 .1 .1 .1 .0 ∙ ap length (z .clear .ensures) ∙ length-replicate _ 0 ∙ p .1 ∙ size-is _ _ _ (p .0) in
+    code-outcome (p .0) _ size (s .sweep-routines .ensures .0) (c .before .before .before .before .verdict-of .ensures) (c .before .before .clear-refused .ensures)
 
 pub check-code-spec : {M : Type 1} → statement M
 check-code-spec =
     tie.close
     (tie.spec
-    clear-requires
-    plain-lengths-requires
-    after-72-lengths-requires
-    after-90-lengths-requires
+    (λ c κs. search needs)
+    (λ c κs. search needs)
+    (λ c κs. search needs)
+    (λ c κs. search needs)
     routine-begins-requires
     sweep-routines-requires
     verdict-of-requires
-    clear-refused-requires
-    same-length
+    (λ c κs. search needs)
+    (λ c. search needs)
     returns)

@@ -1,41 +1,38 @@
+-- `checker::check_valid` meets its contract.
+use mathlib.Core.Path.{sym, ap, _∙_}
+use mathlib.Core.List.{_++_}
+use native.Mathlib.Omega.{arith}
+use lib.ListN.{drop}
+use lib.Seq.{length-take-le}
+use denote.Ref.{now}
+use Rattle.image.proofs.Layouts.{size-is}
+use Rattle.rules.specs.Outcome.{few}
+use Rattle.checker.proofs.Verdicts.{code-whole}
 use borrow.Author.Needs.{needs}
 use Rattle.checker.proofs.check_valid.Statement.{statement}
 use Rattle.checker.proofs.check_valid.Tie as tie
-use Rattle.checker.proofs.check_valid.Reads as reads
-use Rattle.checker.proofs.check_valid.Lts as lts
-use Rattle.checker.proofs.check_code.Reads as check-code-reads
 
--- src/lib.rt:103:9
 returns : tie.Need-returns
-returns c = ?
+returns c =
+    let s = c .before .before .before in
+    few (s .pre) (omega (arith, size-is _ _ _ (s .pre), c .if1 .taken))
 
--- src/lib.rt:105:39
-slice-relend-prefix-check-code : tie.Need-slice-relend-prefix-check-code
-slice-relend-prefix-check-code c = search needs
-
--- src/lib.rt:105:39
-slice-aggregate-check-code : tie.Need-slice-aggregate-check-code
-slice-aggregate-check-code c = ?
-
--- src/lib.rt:105:5
 check-code-requires : tie.Need-check-code-requires
-check-code-requires c κs = ?
+check-code-requires c κs = (c .before .before .before .before .pre, length-take-le _ _ (c .before .if1 .left))
 
--- src/lib.rt:97:1
-same-length : tie.Need-same-length
-same-length c = search needs
-
--- src/lib.rt:97:1
 returns-2 : tie.Need-returns-2
-returns-2 c = ?
+returns-2 c =
+    let t = c .before .before .before .before in
+    let s = t .before .before .before in
+    code-whole (size-is _ _ _ (s .pre)) (t .if1 .left) (c .before .before .check-code .ensures)
 
 pub check-valid-spec : {M : Type 1} → statement M
 check-valid-spec =
     tie.close
     (tie.spec
     returns
-    slice-relend-prefix-check-code
-    slice-aggregate-check-code
+    (λ c. search needs)
+    (λ c. sym (length-take-le _ _ (c .before .if1 .left)))
     check-code-requires
-    same-length
+    (λ c. search needs)
     returns-2)
