@@ -1,12 +1,12 @@
 -- The decode pass: what one start gives, and what the starts so far have left.
 use Prim.Native.Nat.{ℕ, _+_, _<_, _≤_}
-use mathlib.Core.Path.{_≡_, refl, sym, ap, _∙_, subst}
-use mathlib.Core.Logic.{_⊎_, inl, inr, ⊎-elim, by-cases}
+use mathlib.Core.Path.{_≡_, refl, sym, _∙_}
+use mathlib.Core.Logic.{inl, inr, ⊎-elim, by-cases}
 use mathlib.Core.Bool.{Bool, true, false}
 use mathlib.Core.List.{List, [], _∷_}
 use native.Mathlib.Decide.{ℕ-discrete, decLt}
 use native.Mathlib.Omega.{arith}
-use lib.ListN.{length, getD, set, length-set}
+use lib.ListN.{set, length-set}
 use lib.Seq.{getD-set-same, getD-set-other}
 use Rattle.stm8.specs.Decoding.{decodingNumber}
 use Rattle.stm8.specs.Effects.{effect}
@@ -19,10 +19,10 @@ use Rattle.image.specs.Image.{startOf, endOf}
 use Rattle.image.specs.declared.Limits.{Limits}
 use Rattle.rules.specs.Depth.{popped, pushed, falls}
 use Rattle.rules.specs.Code.{instructionAt, Start, begins, follows}
-use Rattle.rules.specs.Refusal.{CodeFault, outside, cut, off, Lowest}
+use Rattle.rules.specs.Refusal.{CodeFault, outside, cut, off}
 use Rattle.rules.proofs.Starts.{found-inside, start-low, start-high, next-start}
 use Rattle.control_flow.specs.Routine as cells
-use Rattle.acceptance.specs.Cells.{fallCell, jumpCell, storeCell, callCell, Stored, Filled}
+use Rattle.acceptance.specs.Cells.{fallCell, jumpCell, storeCell, callCell, Stored}
 use Rattle.checker.specs.Internal.{RoutineOf, OffEnd, cellsOf, Sized, SameCells, CellsStored, StartDecoded, faulty, whole, DecodedTo, RoutineDecoded, refused, filled}
 use Rattle.checker.specs.declared.decoding.Routine.{Routine}
 

@@ -1,5 +1,5 @@
 -- The routines of a valid image, one after the other.
-use Prim.Native.Nat.{ℕ, zero, suc, _+_, _*_, _<_, _≤_}
+use Prim.Native.Nat.{ℕ, zero, suc, _+_, _<_, _≤_}
 use mathlib.Core.Path.{_≡_, refl, sym, ap, _∙_, subst}
 use mathlib.Core.Logic.{⊎-elim}
 use mathlib.Core.Bool.{Bool, true, false}
@@ -19,18 +19,16 @@ use Rattle.image.proofs.Measuring.{start-zero, start-next, start-inside, end-in
 use Rattle.image.proofs.Validity.{valid-rules}
 use Rattle.rules.specs.Code.{Start}
 use Rattle.rules.specs.Rules.{countBelow}
-use Rattle.rules.specs.Refusal.{RoutineRefusal}
 use Rattle.rules.proofs.RefusalNumbers.{routine-refusal-at}
 use Rattle.control_flow.specs.Routine as cells
-use Rattle.control_flow.specs.Outcome.{FlowOutcome}
 use Rattle.control_flow.specs.Exploring.{Checkable, Left}
 use Rattle.acceptance.specs.Cells.{Filled}
 use Rattle.acceptance.specs.Passed.{marked, RoutineChecked, RoutinesPassed}
 use Rattle.acceptance.proofs.Graphs.{decoded}
-use Rattle.acceptance.proofs.OneRoutine.{code-refused, checked-refused, checked-passed, filled-checked}
+use Rattle.acceptance.proofs.OneRoutine.{code-refused, checked-refused, checked-passed}
 use Rattle.acceptance.proofs.AllRoutines.{zeros-at, none-yet, one-more}
 use Rattle.acceptance.proofs.NeedBounds.{need-bound, no-needs, needs-bound}
-use Rattle.checker.specs.Internal.{Begins, RoutineOf, cellsOf, Sized, RoutineDecoded, refused, filled, Clean, NeedsBelow, Swept, ended, stopped, Small}
+use Rattle.checker.specs.Internal.{Begins, RoutineOf, Sized, RoutineDecoded, refused, filled, Clean, NeedsBelow, Swept, ended, stopped, Small}
 use Rattle.checker.specs.declared.decoding.Routine.{Routine}
 use Rattle.checker.specs.declared.sweep.Sweep.{Sweep}
 use Rattle.checker.proofs.DecodePass.{fault-some, start-below}

@@ -2,7 +2,7 @@
 ghost use mathlib.Core.Path.{_≡_};
 ghost use mathlib.Core.List.{List};
 ghost use Prim.Native.Nat.{ℕ, _+_, _≤_};
-ghost use Rattle.stm8.specs.Effects.{relative as relativeTo, bytesWide};
+ghost use Rattle.stm8.specs.Effects.{relative as relativeTo};
 ghost use Rattle.image.specs.Image.{baseOf};
 ghost use Rattle.acceptance.specs.Cells.{fallCell, targetCell, jumpCell, storeCell, callee as calleeOf, calleeCell, callCell};
 ghost use Rattle.checker.specs.Internal.{Begins};

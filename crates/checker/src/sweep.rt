@@ -1,7 +1,7 @@
 // The sweep over the routines: 6 to 15.
 ghost use mathlib.Core.Path.{_≡_};
 ghost use Prim.Native.Nat.{_+_, _≤_, _<_};
-ghost use lib.ListN.{length, set, replicate};
+ghost use lib.ListN.{set, replicate};
 ghost use Rattle.stm8.specs.Decoding.{Tables};
 ghost use Rattle.image.specs.Image.{sizeOf, startOf};
 ghost use Rattle.image.specs.Validation.{validated};

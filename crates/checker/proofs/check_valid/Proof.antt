@@ -1,10 +1,7 @@
 -- `checker::check_valid` meets its contract.
-use mathlib.Core.Path.{sym, ap, _∙_}
-use mathlib.Core.List.{_++_}
+use mathlib.Core.Path.{sym}
 use native.Mathlib.Omega.{arith}
-use lib.ListN.{drop}
 use lib.Seq.{length-take-le}
-use denote.Ref.{now}
 use Rattle.image.proofs.Layouts.{size-is}
 use Rattle.rules.specs.Outcome.{few}
 use Rattle.checker.proofs.Verdicts.{code-whole}

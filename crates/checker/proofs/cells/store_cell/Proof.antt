@@ -1,9 +1,7 @@
 -- `checker::cells::store_cell` meets its contract.
-use Prim.Native.Nat.{_+_, _≤_, _-_}
 use native.Mathlib.Omega.{arith}
 use borrow.Author.Tests.{eq-eqb, ne-eqb}
 use borrow.Author.Needs.{needs}
-use Rattle.stm8.specs.Effects.{bytesWide}
 use Rattle.stm8.proofs.EffectLaws.{wide-some, wide-most}
 use Rattle.acceptance.specs.Cells.{storeCell}
 use Rattle.checker.proofs.cells.store_cell.Statement.{statement}

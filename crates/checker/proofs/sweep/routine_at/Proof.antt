@@ -1,7 +1,6 @@
 -- `checker::sweep::routine_at` meets its contract.
 use mathlib.Core.Path.{refl}
 use native.Mathlib.Omega.{arith}
-use denote.Ref.{now}
 use Rattle.image.proofs.Layouts.{valid-bounds}
 use Rattle.checker.proofs.Routines.{routine-of}
 use borrow.Author.Needs.{needs}
