@@ -2,11 +2,11 @@
 mod cells;
 mod decoding;
 mod depth;
-mod depths;
 mod exploring;
 mod flow;
 mod jumps;
 mod marks;
+mod measuring;
 mod sweep;
 mod uses;
 

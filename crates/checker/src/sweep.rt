@@ -10,7 +10,7 @@ ghost use Rattle.acceptance.specs.Passed.{RoutineChecked, RoutinesPassed};
 ghost use Rattle.checker.specs.Internal.{Begins, RoutineOf, Clean, Swept, Small};
 use crate::decoding::Routine;
 use crate::decoding::decode_routine;
-use crate::depths::Checked;
+use crate::measuring::Checked;
 use crate::flow::check_flow;
 use image::Layout;
 use image::Limits;
