@@ -5,11 +5,11 @@ ghost use lib.ListN.{length};
 ghost use Rattle.control_flow.specs.Routine.{routine};
 ghost use Rattle.control_flow.specs.Outcome.{FlowOutcome};
 ghost use Rattle.control_flow.specs.Exploring.{Checkable, Left};
-use crate::measuring::Checked;
-use crate::measuring::check_depths;
 use crate::exploring::explore;
 use crate::exploring::lowest_unknown;
 use crate::jumps::check_jumps;
+use crate::measuring::Checked;
+use crate::measuring::check_depths;
 
 // A routine that is refused.
 fn refused(number: u8, at: usize, counted: usize) -> Checked
