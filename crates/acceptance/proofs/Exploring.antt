@@ -10,7 +10,7 @@ use borrow.Author.Tests.{eq-eqb, ne-eqb}
 use Rattle.control_flow.specs.Graph.{Graph, Reached}
 use Rattle.control_flow.specs.Exploring.{known, Followed, nowhere, fresh, same, other, Visited, Explorable, Explored}
 use Rattle.control_flow.proofs.Invariant.{Exploring, Nothing, begins}
-use Rattle.control_flow.proofs.Visits.{waited, in-range, visit-keeps, visit-less}
+use Rattle.control_flow.proofs.Visits.{waited, depth-after, visit-keeps, visit-less}
 use Rattle.control_flow.proofs.Ends.{ends}
 use Rattle.acceptance.specs.Exploration.{Exploration, follow, visit, top, popTop, exploreFrom, explored}
 
@@ -34,7 +34,7 @@ follow-followed (suc t) depth s some =
 abbrev State : ℕ → ℕ → Graph → List ℕ → Exploration → Type 0
 State bias most g before s = Exploring bias most g before Nothing (s .depths) (s .stack) (s .height) (s .agree)
 
-module _ {bias most : ℕ} {g : Graph} (small : most * 4096 + most < bias) (moves : (o : ℕ) → Reached g o → (g .pops o ≤ most) × (g .pushes o ≤ most))
+module _ {bias most : ℕ} {g : Graph} (small : most * 4097 < bias) (moves : (o : ℕ) → Reached g o → (g .pops o ≤ most) × (g .pushes o ≤ most))
     (inside : (o : ℕ) → Reached g o → o < 4096) (before : List ℕ) where
   module _ (s : Exploration) (state : State bias most g before s) (some : 1 ≤ s .height) where
     visited : let s′ = visit g (top s) (popTop s) in
@@ -43,25 +43,18 @@ module _ {bias most : ℕ} {g : Graph} (small : most * 4096 + most < bias) (move
         let o = top s in
         let w = waited state inside some o refl in
         let m = moves o (w .0) in
-        let range = in-range state inside some o refl in
         let depth = getD (s .depths) o 0 + g .pushes o - g .pops o in
-        let least : 1 ≤ depth = omega (arith, m .0, range .0) in
+        let after = depth-after state inside some o refl small (m .1) (m .0) in
         let fallen = follow (g .falls o) depth (popTop s) in
         record {
           depth = depth;
-          after =
-              record {
-                moved = omega (arith, m .0, range .0);
-                some = least;
-                pushed-most = m .1;
-                popped-most = m .0;
-              };
+          after = after;
           depths′ = fallen .depths;
           stack′ = fallen .stack;
           height′ = fallen .height;
           agree′ = fallen .agree;
-          fall = follow-followed (g .falls o) depth (popTop s) least;
-          jump = follow-followed (g .jumps o) depth fallen least;
+          fall = follow-followed (g .falls o) depth (popTop s) (after .some);
+          jump = follow-followed (g .jumps o) depth fallen (after .some);
         }
 
     next-state : State bias most g before (visit g (top s) (popTop s))
@@ -82,7 +75,7 @@ module _ {bias most : ℕ} {g : Graph} (small : most * 4096 + most < bias) (move
       rw (ne-eqb _ _ z) (explores fuel _ (next-state s state some) (omega (arith, less s state some))))
 
 -- from the entry, over depths and a stack that are all 0
-module _ {bias most : ℕ} {g : Graph} (small : most * 4096 + most < bias) (moves : (o : ℕ) → Reached g o → (g .pops o ≤ most) × (g .pushes o ≤ most))
+module _ {bias most : ℕ} {g : Graph} (small : most * 4097 < bias) (moves : (o : ℕ) → Reached g o → (g .pops o ≤ most) × (g .pushes o ≤ most))
     (asks : Explorable g (replicate 4096 0) (replicate 4096 0)) where
   pub explored-all : Explored bias g (replicate 4096 0) (explored g bias .depths) (explored g bias .agree)
   unfolding explored

@@ -92,7 +92,7 @@ module _ (image : List ℕ) (limits : Limits) (r : ℕ) (layout : ImageRules ima
         let t = in-total (λ o. x .graph .pops o + x .graph .pushes o) (start-in (reached-start formed p)) in
         (omega arith, omega arith)
 
-    small : mostMoved (x .graph) starts * 4096 + mostMoved (x .graph) starts < bias
+    small : mostMoved (x .graph) starts * 4097 < bias
     unfolding biasOf biasFor
     small = omega arith
 

@@ -88,14 +88,13 @@ module _ {image : List ℕ} {r : Routine} {x : cells.Routine} where
 module _ {image : List ℕ} {r : Routine} (routine : RoutineOf image r) {starts falls jumps pops pushes stores calls depths stack : List ℕ}
     (clean : Clean (r .start) starts falls jumps pops pushes stores calls depths stack) {x : cells.Routine}
     (f : Filled image (r .limits) (r .index) x) where
-  pub checkable : {needs : List ℕ} → length needs ≡ 32 → Checkable x depths stack needs
-  checkable held =
+  pub checkable : Checkable x depths stack
+  checkable =
       record {
         decoded = decoded f (routine .layout) (routine .inside);
         cells = clean .depths-cells;
         slots = clean .slots;
         clear = λ o s. clean .no-depths o (omega (arith, s .low, f .entry, routine .start-is));
-        held = held;
       }
 
   pub clean-after : {starts′ falls′ jumps′ pops′ pushes′ stores′ calls′ depths′ stack′ : List ℕ} →

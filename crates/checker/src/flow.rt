@@ -5,11 +5,11 @@ ghost use lib.ListN.{length};
 ghost use Rattle.control_flow.specs.Routine.{routine};
 ghost use Rattle.control_flow.specs.Outcome.{FlowOutcome};
 ghost use Rattle.control_flow.specs.Exploring.{Checkable, Left};
-use crate::depths::Checked;
-use crate::depths::check_depths;
 use crate::exploring::explore;
 use crate::exploring::lowest_unknown;
 use crate::jumps::check_jumps;
+use crate::measuring::Checked;
+use crate::measuring::check_depths;
 
 // A routine that is refused.
 fn refused(number: u8, at: usize, counted: usize) -> Checked
@@ -42,7 +42,7 @@ pub(crate) fn check_flow(
     marks: &mut [u16],
 ) -> Checked
     requires { ⌜ Checkable (routine entry end (now starts) (now falls) (now jumps) (now pops) (now pushes) (now stores) (now calls))
-        (now depths) (now stack) (now needs) × (end ≤ length (now marks)) × (counted ≤ entry) ⌝ }
+        (now depths) (now stack) × (end ≤ length (now marks)) × (counted ≤ entry) ⌝ }
     ensures { λ r. ⌜ FlowOutcome
         (routine entry end (now (starts .entry)) (now (falls .entry)) (now (jumps .entry)) (now (pops .entry)) (now (pushes .entry))
         (now (stores .entry)) (now (calls .entry)))

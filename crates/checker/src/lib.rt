@@ -2,11 +2,11 @@
 mod cells;
 mod decoding;
 mod depth;
-mod depths;
 mod exploring;
 mod flow;
 mod jumps;
 mod marks;
+mod measuring;
 mod sweep;
 mod uses;
 
@@ -18,6 +18,7 @@ ghost use Rattle.image.specs.Image.{countOf, sizeOf};
 ghost use Rattle.image.specs.Validation.{validated};
 ghost use Rattle.image.specs.declared.Validated.the-variants.{Valid};
 ghost use Rattle.rules.specs.Outcome.{Outcome};
+ghost use Rattle.acceptance.specs.Check.{checked};
 ghost use Rattle.checker.specs.Internal.{Begins, Small, VerdictOf, codeMarks, CodeOutcome};
 use crate::marks::clear;
 use crate::sweep::Sweep;
@@ -110,7 +111,7 @@ fn check_valid(image: &[u8], limits: Limits, layout: Layout, marks: &mut [u16]) 
 
 // Checks an image under limits.
 pub fn check(image: &[u8], limits: Limits, marks: &mut [u16]) -> Verdict
-    ensures { λ r. ⌜ Outcome (now (image .entry)) limits (now (marks .entry)) r (now (marks .exit)) ⌝ }
+    ensures { λ r. ⌜ checked (now (image .entry)) limits (now (marks .entry)) ≡ (r, now (marks .exit)) ⌝ }
 {
     let v = validate(image, limits);
     match v {

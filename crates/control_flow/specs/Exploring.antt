@@ -1,5 +1,5 @@
 -- What each function of the check by cells asks and does. No public definition cites it.
-use Prim.Native.Nat.{ℕ, zero, suc, _+_, _-_, _*_, _≤_, _<_}
+use Prim.Native.Nat.{ℕ, zero, suc, _+_, _≤_, _<_}
 use mathlib.Core.Path.{_≡_}
 use mathlib.Core.Logic.{_⊎_}
 use mathlib.Core.Bool.{Bool, true, false}
@@ -88,13 +88,12 @@ pub data Tested (x : Routine) (check : ℕ → ℕ) : ℕ → ℕ → Type 0 whe
   fails : {number at : ℕ} → First x check number at → Tested x check number at
   passes : {at : ℕ} → Passes x check → Tested x check 0 at
 
--- What the check of a routine asks: it is decoded, none of its depths is known yet, and its calls are of routines whose needs are held.
-pub record Checkable (x : Routine) (depths stack needs : List ℕ) : Type 0 where
+-- What the check of a routine asks: it is decoded, and none of its depths is known yet.
+pub record Checkable (x : Routine) (depths stack : List ℕ) : Type 0 where
   pub decoded : Decoded x
   pub cells : length depths ≡ 4096
   pub slots : length stack ≡ 4096
   pub clear : (o : ℕ) → Start x o → getD depths o 0 ≡ 0
-  pub held : length needs ≡ 32
 
 -- What it leaves in the arrays that the next routine is checked with: no depth but those of the routine's starts changes.
 pub record Left (x : Routine) (before depths stack : List ℕ) : Type 0 where

@@ -1,15 +1,21 @@
--- `checker::check` meets its contract.
+-- `checker::check` meets its contract: its outcome is a declared one, and there is one only.
 use mathlib.Core.Path.{sym, _∙_}
 use Rattle.rules.specs.Outcome.{invalid}
+use Rattle.acceptance.proofs.Accepting.{outcome-checked}
 use borrow.Author.Needs.{needs}
 use Rattle.checker.proofs.check.Statement.{statement}
 use Rattle.checker.proofs.check.Tie as tie
 
 check-valid-requires : tie.Need-check-valid-requires
-check-valid-requires c κs = sym (c .before .before .before .before .validate .ensures) ∙ c .before .before .v2 .given .1
+check-valid-requires c κs =
+    let c4 = c .before .before .before .before in
+    sym (c4 .validate .ensures) ∙ c .before .before .v2 .given .1
 
 returns : tie.Need-returns
-returns c = invalid (sym (c .before .before .before .validate .ensures) ∙ c .before .v .given .1)
+returns c = outcome-checked _ _ _ (invalid (sym (c .before .before .before .validate .ensures) ∙ c .before .v .given .1))
+
+returns-2 : tie.Need-returns-2
+returns-2 c = outcome-checked _ _ _ (c .before .before .check-valid .ensures)
 
 pub check-spec : {M : Type 1} → statement M
 check-spec =
@@ -21,4 +27,4 @@ check-spec =
     check-valid-requires
     returns
     (λ c. search needs)
-    (λ c. search needs))
+    returns-2)

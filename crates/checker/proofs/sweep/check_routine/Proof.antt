@@ -17,7 +17,7 @@ check-flow-requires c κs =
     let s = d .before .before .before .before .before .before .before .before .before .before in
     let passed = s .pre .4 in
     let f = decode-filled (d .decode-routine .ensures .0) (t .if1 .left) in (
-      checkable (s .pre .0) (s .pre .3) (f .0) (passed .held),
+      checkable (s .pre .0) (s .pre .3) (f .0),
       enough-marks (s .pre .0) passed,
       few-starts (s .pre .0) passed,
     )

@@ -1,4 +1,4 @@
--- `checker::depths::check_depth` meets its contract. What the passed checks say of the start's cells keeps every sum and difference in range.
+-- `checker::measuring::check_depth` meets its contract. What the passed checks say of the start's cells keeps every sum and difference in range.
 use Prim.Native.Nat.{_+_, _≤_}
 use mathlib.Core.Path.{sym, _∙_}
 use native.Mathlib.Omega.{arith}
@@ -8,8 +8,8 @@ use lib.ListN.{getD}
 use Rattle.control_flow.specs.Exploring.{middle}
 use Rattle.control_flow.specs.Measuring.{skips, refuses, measures}
 use Rattle.control_flow.proofs.DepthNumbers.{Inside, depth-passes}
-use Rattle.checker.proofs.depths.check_depth.Statement.{statement}
-use Rattle.checker.proofs.depths.check_depth.Tie as tie
+use Rattle.checker.proofs.measuring.check_depth.Statement.{statement}
+use Rattle.checker.proofs.measuring.check_depth.Tie as tie
 
 here : (c : tie.Else2) →
     let i = c .before .before .before .before .before .before .before .before .before in

@@ -1,10 +1,10 @@
--- `checker::depths::depth_number` meets its contract.
+-- `checker::measuring::depth_number` meets its contract.
 use borrow.Author.Needs.{needs}
 use Rattle.numbers.specs.Folds.{firstIn}
 use Rattle.numbers.proofs.Folding.{first-none}
 use Rattle.control_flow.specs.Routine.{depthNumber}
-use Rattle.checker.proofs.depths.depth_number.Statement.{statement}
-use Rattle.checker.proofs.depths.depth_number.Tie as tie
+use Rattle.checker.proofs.measuring.depth_number.Statement.{statement}
+use Rattle.checker.proofs.measuring.depth_number.Tie as tie
 
 returns : tie.Need-returns
 unfolding depthNumber firstIn

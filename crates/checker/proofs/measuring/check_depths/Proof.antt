@@ -1,4 +1,4 @@
--- `checker::depths::check_depths` meets its contract. The loop's invariant is `Measuring`: every start passed is done.
+-- `checker::measuring::check_depths` meets its contract. The loop's invariant is `Measuring`: every start passed is done.
 use Prim.Native.Nat.{_-_}
 use mathlib.Core.Path.{_≡_, refl}
 use native.Mathlib.Omega.{arith}
@@ -9,8 +9,8 @@ use Rattle.control_flow.specs.Exploring.{middle, fails}
 use Rattle.control_flow.proofs.Outcomes.{tested-none}
 use Rattle.control_flow.proofs.Measures.{Measuring, measuring-begins, count-low, measuring-ends, measuring-passes}
 use Rattle.control_flow.proofs.Measures.{step-refuses, step-keeps, step-on, step-inside}
-use Rattle.checker.proofs.depths.check_depths.Statement.{statement}
-use Rattle.checker.proofs.depths.check_depths.Tie as tie
+use Rattle.checker.proofs.measuring.check_depths.Statement.{statement}
+use Rattle.checker.proofs.measuring.check_depths.Tie as tie
 
 abbrev Inv-loop : tie.InvT-loop
 Inv-loop entry end starts falls jumps pops pushes stores calls needs counted depths marks₀ c₀ marks c =
