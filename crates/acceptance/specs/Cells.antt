@@ -1,4 +1,5 @@
--- The cells that the check by cells goes by, for the instructions of a routine of an image.
+-- The cells that the check by cells goes by, for the instructions of a routine of an image. Nobody has to believe them: they are
+-- tied to the rules by theorems.
 use Prim.Native.Nat.{ℕ, zero, suc, _+_, _-_, _<_}
 use mathlib.Core.Path.{_≡_}
 use mathlib.Core.Bool.{true, cond}

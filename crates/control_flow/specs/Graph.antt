@@ -1,4 +1,5 @@
 -- The control flow of one routine: its paths, what they reach and at which depths. Nothing here knows of STM8, or of how a routine is explored.
+-- Nobody has to believe what stands in this crate: acceptance ties it to the rules.
 use Prim.Native.Nat.{ℕ, _+_}
 use mathlib.Core.Path.{_≡_}
 use mathlib.Core.List.{List}

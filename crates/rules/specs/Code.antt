@@ -56,7 +56,7 @@ pub data Path (image : List ℕ) (r : ℕ) : ℕ → ℕ → ℕ → Type 0 wher
   onward : {o to pushes pops n : ℕ} {i : Instruction} → Path image r o pushes pops → instructionAt image r o ≡ Found i n → Goes image r o to →
       Path image r to (pushes + pushed (effect i)) (pops + popped (effect i))
 
--- two paths give some start different depths: pushes - pops is not pushes′ - pops′
+-- two paths give some start different depths: pushes - pops is not pushes′ - pops′ (where 8, 9, 15, 13 and 10 pass, a path leads to starts alone)
 pub record Disagree (image : List ℕ) (r : ℕ) : Type 0 where
   pub offset : ℕ
   pub pushes : ℕ
