@@ -5,7 +5,10 @@
  * aligned for its type, and leads to as many cells as its length, or its array type, says; and no cell that a function writes
  * lies in another of its arguments.
  *
- * Numbers are those of document 01; addresses are 16 bits, PC has 24. Limits are four addresses, ends included. */
+ * Numbers are those of document 01; addresses are 16 bits, PC has 24. Limits are four addresses, ends included.
+ *
+ * The library keeps nothing between calls. gate_check and gate_start take 66 KiB of the caller's stack (67,111 bytes at most were
+ * measured on x86-64), nearly all of it for a few numbers about each code byte; no other function takes 4 KiB. */
 #ifndef GATE_H
 #define GATE_H
 
@@ -56,8 +59,8 @@ enum gate_register { GATE_A, GATE_X, GATE_Y, GATE_CC, GATE_SP, GATE_PC, GATE_REG
 enum gate_report { GATE_OFFSET, GATE_NEED, GATE_COUNT, GATE_REPORT };
 
 /* Checks an image under limits. The answer is 0 (accepted) or a refusal from 1 to 16.
- * report: the refusal's offset from the first code byte (0 for all but 6 to 15); the need; the count of starts. Offset is 0 where
- * accepted, need and count are 0 where refused.
+ * report: the refusal's offset from the first code byte, 0 for all but 6 to 15 (7 points at its routine's first byte, the others
+ * at the instruction to look at); the need; the count of starts. Offset is 0 where accepted, need and count are 0 where refused.
  * marks: accepted, each start's mark is its depth + 1 and every other code byte's is 0; after 6 to 16 all code marks are 0; after
  * 1 to 5 none has changed. Cells past the code never change. */
 uint8_t gate_check(const uint8_t *image, size_t image_length,

@@ -1,8 +1,11 @@
-//! Document 01's own examples, through the library and through the twin.
+//! Document 01's own examples, as W-202 has them, and what a careless reader of both gets wrong, through the library and through
+//! the twin.
 
-use gate_host::{slu, twin, Accepted, Ending, Limits, Refusal, Refused, Registers, Run, Step, Trap, MEMORY_BYTES};
+use gate_host::{slu, twin, Accepted, Ending, Limits, Refusal, Refused, Registers, Run, Step, Trap, MARKS_ENOUGH, MEMORY_BYTES};
 
 const LIMITS: Limits = Limits { grant_low: 0x0000, grant_high: 0x00FF, stack_low: 0x0300, stack_high: 0x03FF };
+/// What a mark holds before a check.
+const BLANK: u16 = 0xA5A5;
 
 type Verdict = Result<Accepted, Refused>;
 
@@ -10,13 +13,29 @@ fn image(routines: &[&[u8]]) -> Vec<u8> {
     slu::image_of(0x8000, routines)
 }
 
-/// Both verdicts on an image, which must agree, marks included.
-fn check(file: &[u8], limits: &Limits, marks: usize) -> Verdict {
-    let (mut one, mut other) = (vec![0xA5A5; marks], vec![0xA5A5; marks]);
+/// The image of routines in hexadecimal, with | between two.
+fn assembled(routines: &str) -> Vec<u8> {
+    let byte = |digits| u8::from_str_radix(digits, 16).expect("hexadecimal");
+    let routines: Vec<Vec<u8>> = routines.split('|').map(|code| code.split_whitespace().map(byte).collect()).collect();
+    slu::image_of(0x8000, &routines)
+}
+
+/// Both verdicts on an image, which must agree, marks included, and the marks.
+fn check_and_marks(file: &[u8], limits: &Limits, marks: usize) -> (Verdict, Vec<u16>) {
+    let (mut one, mut other) = (vec![BLANK; marks], vec![BLANK; marks]);
     let verdict = gate_host::check(file, limits, &mut one);
-    assert_eq!(verdict, twin::check(file, limits, &mut other));
-    assert_eq!(one, other);
-    verdict
+    assert_eq!(verdict, twin::check(file, limits, &mut other), "{file:02X?}");
+    assert_eq!(one, other, "{file:02X?}");
+    if let Err(Refused { refusal, .. }) = verdict {
+        // After 6 to 16 the code's marks are 0; every other is as it was.
+        let code = if refusal.number() < 6 { 0 } else { twin::Image::parse(file).expect("a good layout").code.len() };
+        assert!(one[..code].iter().all(|&mark| mark == 0) && one[code..].iter().all(|&mark| mark == BLANK), "{file:02X?}");
+    }
+    (verdict, one)
+}
+
+fn check(file: &[u8], limits: &Limits, marks: usize) -> Verdict {
+    check_and_marks(file, limits, marks).0
 }
 
 fn refused(number: u8, offset: u16) -> Verdict {
@@ -25,6 +44,20 @@ fn refused(number: u8, offset: u16) -> Verdict {
 
 fn accepted(need: u16, count: u16) -> Verdict {
     Ok(Accepted { need, count })
+}
+
+/// Routines, and the number and offset that they are refused with.
+fn all_refused(table: &[(&str, u8, u16)]) {
+    for &(routines, number, offset) in table {
+        assert_eq!(check(&assembled(routines), &LIMITS, MARKS_ENOUGH), refused(number, offset), "{routines}");
+    }
+}
+
+/// Routines that are accepted, and their need and count.
+fn all_accepted(table: &[(&str, u16, u16)]) {
+    for &(routines, need, count) in table {
+        assert_eq!(check(&assembled(routines), &LIMITS, MARKS_ENOUGH), accepted(need, count), "{routines}");
+    }
 }
 
 /// Both steps from the same state, which must agree.
@@ -51,23 +84,20 @@ fn refusals_of_the_table() {
     assert_eq!(check(&second, &LIMITS, 1), refused(3, 0));
     assert_eq!(check(b"SLU\x00\x01\x80\x00\x00", &LIMITS, 1), refused(4, 0));
     assert_eq!(check(&image(&[&[0x9D, 0x9D, 0x81]]), &LIMITS, 2), refused(5, 0));
-    let table: [(u8, u16, &[u8]); 12] = [
-        (6, 1, &[0x81, 0x9D]),
-        (7, 3, &[0x27, 0x01, 0x88, 0x81]),
-        (8, 0, &[0x8E, 0x81]),
-        (9, 0, &[0xA6]),
-        (9, 0, &[0x72]),
-        (10, 2, &[0x27, 0x01, 0xA6, 0x00, 0x81]),
-        (11, 0, &[0x84, 0x81]),
-        (12, 0, &[0xC7, 0x01, 0x00, 0x81]),
-        (13, 0, &[0x20, 0x7F]),
-        (14, 0, &[0xCD, 0x80, 0x00, 0x81]),
-        (15, 0, &[0x9D]),
-        (7, 3, &[0x27, 0x04, 0x88, 0x27, 0x01, 0x84, 0x81, 0x81]),
-    ];
-    for (number, offset, code) in table {
-        assert_eq!(check(&image(&[code]), &LIMITS, 16), refused(number, offset), "{code:02X?}");
-    }
+    all_refused(&[
+        ("81 9D", 15, 1),
+        ("27 01 88 81", 7, 0),
+        ("8E 81", 8, 0),
+        ("A6", 9, 0),
+        ("72", 9, 0),
+        ("90", 9, 0),
+        ("27 01 A6 00 81", 10, 0),
+        ("84 81", 11, 0),
+        ("C7 01 00 81", 12, 0),
+        ("20 7F", 13, 0),
+        ("CD 80 00 81", 14, 0),
+        ("9D", 15, 0),
+    ]);
     assert_eq!(check(&ret, &Limits { stack_low: 0x03FF, ..LIMITS }, 1), refused(16, 0));
 }
 
@@ -78,9 +108,227 @@ fn need_and_count() {
     assert_eq!(check(&file, &Limits { stack_low: 0x03FB, ..LIMITS }, 7), accepted(5, 5));
     assert_eq!(check(&file, &Limits { stack_low: 0x03FC, ..LIMITS }, 7), refused(16, 0));
     assert_eq!(check(&image(&[&[0x20, 0xFE]]), &LIMITS, 2), accepted(2, 1));
-    let mut marks = [7; 4];
-    assert_eq!(gate_host::check(&image(&[&[0x88, 0x84, 0x81]]), &LIMITS, &mut marks), accepted(3, 3));
-    assert_eq!(marks, [1, 2, 1, 7]);
+    let (verdict, marks) = check_and_marks(&image(&[&[0x88, 0x84, 0x81]]), &LIMITS, 4);
+    assert_eq!((verdict, &marks[..]), (accepted(3, 3), &[1, 2, 1, BLANK][..]));
+    // A depth of 255 is allowed.
+    let deep = Limits { stack_low: 0x0200, ..LIMITS };
+    let (verdict, marks) = check_and_marks(&assembled("52 FF 5B FF 81"), &deep, 5);
+    assert_eq!((verdict, &marks[..]), (accepted(257, 3), &[1, 0, 256, 0, 1][..]));
+    all_accepted(&[
+        // A call leaves the depth as it is.
+        ("81 | CD 80 00 81", 4, 3),
+        // What nobody calls is counted, and not needed.
+        ("52 10 5B 10 81 | 81", 2, 4),
+        ("52 00 81", 2, 2),
+    ]);
+}
+
+/// W-202: each group of refusals is tested over the whole routine before the next group.
+#[test]
+fn order_of_the_refusals() {
+    all_refused(&[
+        // 8, 9 and 15 come first, at starts that nothing reaches too.
+        ("81 8E", 8, 1),
+        ("81 A6", 9, 1),
+        ("81 72", 9, 1),
+        ("20 7F 8E", 8, 2),
+        ("20 FF A6", 9, 2),
+        ("27 7F 9D", 15, 2),
+        ("84 9D", 15, 1),
+        ("CD 80 00", 15, 0),
+        ("26 FE", 15, 0),
+        // Then 13 and 10, at jumps that nothing reaches too; the lower jump first.
+        ("81 20 7F", 13, 1),
+        ("81 20 FF", 10, 1),
+        ("27 FF 20 7F", 10, 0),
+        ("27 7F 20 FF", 13, 0),
+        ("20 01 A6 81 81", 10, 0),
+        ("84 27 FF 81", 10, 1),
+        // Then 6, wherever the others would be.
+        ("27 04 88 27 01 84 81 81", 6, 7),
+        ("84 81 81", 6, 2),
+        ("C7 01 00 81 81", 6, 4),
+        ("CD 80 00 81 81", 6, 4),
+        // Then 7.
+        ("27 04 88 27 01 84 81", 7, 0),
+        ("84 27 01 88 81", 7, 0),
+        ("C7 01 00 27 01 88 81", 7, 0),
+        ("CD 80 00 27 01 88 81", 7, 0),
+        // Then 11, 12 and 14: the lower start first, and at one start in that order.
+        ("C7 01 00 84 81", 12, 0),
+        ("CD 80 00 84 81", 14, 0),
+        ("84 C7 01 00 81", 11, 0),
+        ("32 01 00 81", 11, 0),
+        ("20 04 CD 80 00 81 84 20 F9", 11, 2),
+    ]);
+    // 16 comes last of all.
+    let none = Limits { stack_low: 0x03FF, ..LIMITS };
+    assert_eq!(check(&assembled("81 | 84 81"), &none, 3), refused(11, 1));
+}
+
+/// W-202: a routine is tested wholly before the next one, and offsets count over the whole code.
+#[test]
+fn one_routine_after_the_other() {
+    all_refused(&[
+        ("9D | 8E", 15, 0),
+        ("27 01 88 81 | 8E", 7, 0),
+        ("88 81 | 81 9D", 11, 1),
+        ("81 | 27 01 88 81", 7, 1),
+        ("81 | 81 81", 6, 2),
+        ("81 | 27 01 A6 00 81", 10, 1),
+        // An instruction ends with its routine, and a jump stays in it, whatever the next one begins with.
+        ("9D 72 | 10 00 10 81", 9, 1),
+        ("20 00 | 81", 13, 0),
+        ("81 | 20 FD", 13, 1),
+        ("CD 80 04 81 | 81", 14, 0),
+        ("9D 81 | CD 80 01 81", 14, 2),
+        ("81 | AD FE 81", 14, 1),
+    ]);
+    all_accepted(&[("81 | AD FD 81", 4, 3)]);
+}
+
+#[test]
+fn jumps() {
+    all_refused(&[
+        ("20 00", 13, 0),
+        ("20 80", 13, 0),
+        // Into the jump itself, into an instruction before it, into one after it.
+        ("20 FF", 10, 0),
+        ("A6 00 26 FD 81", 10, 2),
+        ("20 01 A6 00 81", 10, 0),
+        // JRF, BTJT and BTJF are jumps like the others.
+        ("21 7F 81", 13, 0),
+        ("21 01 A6 00 81", 10, 0),
+        ("21 01 88 81", 7, 0),
+        ("72 00 00 10 7F 81", 13, 0),
+        ("72 00 00 10 01 A6 00 81", 10, 0),
+        ("72 00 00 10 01 88 81", 7, 0),
+        ("72 01 00 10 01 88 81", 7, 0),
+    ]);
+    all_accepted(&[
+        ("20 FE", 2, 1),
+        ("27 00 81", 2, 2),
+        ("21 01 81 81", 2, 3),
+        // The byte that is tested may lie outside the grant.
+        ("72 00 FF FF 01 81 81", 2, 3),
+    ]);
+}
+
+#[test]
+fn stores() {
+    all_refused(&[
+        // At SP, by the depth before the instruction; a word's last byte counts.
+        ("6B 01 81", 12, 0),
+        ("88 6B 00 84 81", 12, 1),
+        ("88 6B 02 84 81", 12, 1),
+        ("88 1F 01 84 81", 12, 1),
+        ("CF 00 FF 81", 12, 0),
+        ("CF FF FF 81", 12, 0),
+        ("88 32 01 00 81", 12, 1),
+    ]);
+    all_accepted(&[
+        ("88 6B 01 84 81", 3, 4),
+        ("89 1F 01 85 81", 4, 4),
+        ("CF 00 FE 81", 2, 2),
+        // PUSH, TNZ, BCP and BTJT store nothing.
+        ("3B 01 00 84 81", 3, 3),
+        ("72 5D 01 00 81", 2, 2),
+        ("C5 01 00 81", 2, 2),
+        ("72 00 01 00 00 81", 2, 2),
+    ]);
+}
+
+#[test]
+fn loops_tested_at_the_bottom() {
+    let (verdict, marks) = check_and_marks(&assembled("20 01 4A 26 FD 81"), &LIMITS, 7);
+    assert_eq!((verdict, &marks[..]), (accepted(2, 4), &[1, 0, 1, 1, 0, 1, BLANK][..]));
+    // The test pushes and the body pops.
+    let (verdict, marks) = check_and_marks(&assembled("20 02 84 9D 88 26 FB 84 81"), &LIMITS, 9);
+    assert_eq!((verdict, &marks[..]), (accepted(3, 7), &[1, 0, 2, 1, 1, 2, 0, 2, 1][..]));
+    all_accepted(&[
+        // A call in the body.
+        ("81 | 20 03 CD 80 00 26 FB 81", 4, 5),
+        // A way out of the body.
+        ("20 03 27 03 81 26 FB 81", 2, 5),
+        // Reached from below, and from there from below again.
+        ("20 04 81 9D 20 FC 20 FB", 2, 5),
+        // Jumps that are never made.
+        ("20 01 4A 21 FD 81", 2, 4),
+    ]);
+}
+
+/// A start is not reached by itself, nor from another start that is not reached.
+#[test]
+fn islands() {
+    all_refused(&[
+        ("20 02 20 FE 81", 6, 2),
+        ("20 02 27 FE 81", 6, 2),
+        ("20 03 9D 20 FD 81", 6, 2),
+        ("20 04 20 00 20 FC 81", 6, 2),
+        ("20 01 9D 81", 6, 2),
+        ("81 20 FD", 6, 1),
+        ("81 81", 6, 1),
+    ]);
+}
+
+/// Depths are counted on below 0 and above 255 until all paths are seen to agree.
+#[test]
+fn depths_of_paths() {
+    all_refused(&[
+        // A depth below 0 is not "not reached".
+        ("84 88 81", 11, 0),
+        ("88 85 81", 11, 1),
+        ("88 81", 11, 1),
+        ("52 FF 88 84 5B FF 81", 11, 2),
+        ("52 FE 89 85 5B FE 81", 11, 2),
+        ("52 FF 52 FF 5B FF 5B FF 81", 11, 2),
+        ("52 FF 52 01 81", 11, 2),
+        // The lowest start, though the depth leaves its range at a higher one first.
+        ("20 02 88 81 84 20 FB", 11, 2),
+        ("20 01 81 88 20 FC", 11, 2),
+        // Each turn of the loop has another depth, so no depth is tested.
+        ("88 26 FD 81", 7, 0),
+        ("84 26 FD 81", 7, 0),
+        ("88 20 FD", 7, 0),
+        ("52 FF 26 FC 81", 7, 0),
+        ("20 01 88 26 FD 81", 7, 0),
+        // The paths' depths are the same in 8 bits.
+        ("27 04 52 FF 52 01 81", 7, 0),
+    ]);
+}
+
+/// Two paths to the same RET: one through these instructions of two bytes, the other past them.
+fn beside(instructions: &[[u8; 2]]) -> Vec<u8> {
+    let mut code = vec![0x27, 0];
+    let mut offset = 1;
+    // No jump leads past all of them: after each 60 stands a JRA, for the other path, to the next such JRA.
+    for part in instructions.chunks(60) {
+        code.extend(part.concat());
+        code.extend([0x20, 0x02]);
+        code[offset] = (code.len() - (offset + 1)) as u8;
+        code.extend([0x20, 0x00]);
+        offset = code.len() - 1;
+    }
+    code.push(0x81);
+    code
+}
+
+#[test]
+fn depths_beyond_16_bits() {
+    let moves = |opcode: u8, depth: usize| [vec![[opcode, 0xFF]; depth / 255], vec![[opcode, (depth % 255) as u8]]].concat();
+    let push = |depth| moves(0x52, depth);
+    let pop = |depth| moves(0x5B, depth);
+    let verdict = |code: &[u8]| check(&image(&[code]), &LIMITS, MARKS_ENOUGH);
+    // The paths' depths are the same in 16 bits.
+    assert_eq!(verdict(&beside(&push(0x1_0000))), refused(7, 0));
+    assert_eq!(verdict(&beside(&pop(0x1_0000))), refused(7, 0));
+    assert_eq!(verdict(&beside(&push(0x2_0000))), refused(7, 0));
+    assert_eq!(verdict(&beside(&[push(153_000), pop(153_000 - 0x2_0000)].concat())), refused(7, 0));
+    // They are the same.
+    assert_eq!(verdict(&beside(&[push(0x1_0000), pop(0x1_0000)].concat())), refused(11, 4));
+    assert_eq!(verdict(&beside(&[pop(0x1_0000), push(0x1_0000)].concat())), refused(11, 2));
+    // There is one path.
+    assert_eq!(verdict(&[push(0x1_0000).concat(), vec![0x81]].concat()), refused(11, 2));
 }
 
 #[test]

@@ -1,2 +1,5 @@
-pub mod Rules
-pub mod Acceptance
+pub mod Cells
+pub mod Passed
+pub mod Starts
+pub mod Exploration
+pub mod Check

@@ -1,5 +1,5 @@
 pub mod Bytes
-pub mod Checks
-pub mod Starts
+pub mod Callees
+pub mod DecodePass
 pub mod Routines
 pub mod Verdicts

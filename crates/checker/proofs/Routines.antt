@@ -1,148 +1,223 @@
--- The starts of a routine, and the routines, one after the other: what is left to sweep gives what the whole gives.
-use Prim.Native.Nat.{ℕ, zero, suc, _+_, _*_, _-_, _<_, _≤_}
-use mathlib.Core.Path.{_≡_, refl, sym, _∙_}
-use mathlib.Core.List.{List, [], _∷_}
+-- The routines of a valid image, one after the other.
+use Prim.Native.Nat.{ℕ, zero, suc, _+_, _<_, _≤_}
+use mathlib.Core.Path.{_≡_, refl, sym, ap, _∙_, subst}
+use mathlib.Core.Logic.{⊎-elim}
+use mathlib.Core.Bool.{Bool, true, false}
+use mathlib.Core.List.{List}
 use native.Mathlib.Omega.{arith}
-use lib.ListN.{length, getD, set, replicate}
+use lib.ListN.{length, getD, set, replicate, length-replicate}
 use lib.Seq.{getD-set-same, getD-set-other}
 use borrow.Author.Count.{below-more}
-use borrow.Author.Tests.{ne-eqb, eq-eqb, lt-ltb, le-ltb}
-use Rattle.image.specs.Image.{countOf, startOf, endOf}
+use Rattle.numbers.specs.Bits.{flag}
+use Rattle.image.specs.Image.{countOf, sizeOf, lengthAt, startOf, endOf}
+use Rattle.image.specs.Validation.{validated}
 use Rattle.image.specs.declared.Limits.{Limits}
 use Rattle.image.specs.declared.Layout.{Layout}
-use Rattle.image.proofs.Measuring.{start-next}
-use Rattle.checker.specs.Sweep.{startAt, startsFrom, entered, routineSwept, closed, stopped, routinesFrom, begun}
-use Rattle.checker.specs.Internal.{Begins, Between, Ended}
-use Rattle.checker.specs.declared.sweep.Routine.{Routine}
-use Rattle.checker.specs.declared.sweep.Progress.{Progress}
+use Rattle.image.specs.declared.Validated.the-variants.{Valid}
+use Rattle.image.proofs.Layouts.{valid-bounds, base-is, count-is, code-is, size-is}
+use Rattle.image.proofs.Measuring.{start-zero, start-next, start-inside, end-inside}
+use Rattle.image.proofs.Validity.{valid-rules}
+use Rattle.rules.specs.Code.{Start}
+use Rattle.rules.specs.Rules.{countBelow}
+use Rattle.rules.proofs.RefusalNumbers.{routine-refusal-at}
+use Rattle.control_flow.specs.Routine as cells
+use Rattle.control_flow.specs.Exploring.{Checkable, Left}
+use Rattle.acceptance.specs.Cells.{Filled}
+use Rattle.acceptance.specs.Passed.{marked, RoutineChecked, RoutinesPassed}
+use Rattle.acceptance.proofs.Graphs.{decoded}
+use Rattle.acceptance.proofs.OneRoutine.{code-refused, checked-refused, checked-passed}
+use Rattle.acceptance.proofs.AllRoutines.{zeros-at, none-yet, one-more}
+use Rattle.acceptance.proofs.NeedBounds.{need-bound, no-needs, needs-bound}
+use Rattle.checker.specs.Internal.{Begins, RoutineOf, Sized, RoutineDecoded, refused, filled, Clean, NeedsBelow, Swept, ended, stopped, Small}
+use Rattle.checker.specs.declared.decoding.Routine.{Routine}
 use Rattle.checker.specs.declared.sweep.Sweep.{Sweep}
-use Rattle.checker.proofs.Starts.{AfterStart}
-
-module _ (image : List ℕ) (limits : Limits) (needs : List ℕ) (r : Routine) (marks : List ℕ) (p : Progress) where
-  pub starts-done : (fuel : ℕ) → r .end ≤ p .at → startsFrom fuel image limits needs r marks p ≡ (p, marks)
-  unfolding startsFrom
-  starts-done zero h = refl
-  starts-done (suc fuel) h = rw (le-ltb (p .at) (r .end) h)
-
-  module _ (h : p .at < r .end) (q : Progress) (marks′ : List ℕ) (e : startAt image limits needs r marks p ≡ (q, marks′)) where
-    pub starts-last : (fuel : ℕ) → r .end ≤ p .at + fuel → (q .refusal ≡ 0 → ⊥) → startsFrom fuel image limits needs r marks p ≡ (q, marks′)
-    unfolding startsFrom
-    starts-last zero enough some = absurd (omega arith)
-    starts-last (suc fuel) enough some = rw (lt-ltb (p .at) (r .end) h, e, ne-eqb (q .refusal) 0 some)
-
-    starts-turn : (fuel : ℕ) → r .end ≤ p .at + fuel → q .refusal ≡ 0 → p .at < q .at →
-        (rest : ℕ) × (r .end ≤ q .at + rest) × (startsFrom fuel image limits needs r marks p ≡ startsFrom rest image limits needs r marks′ q)
-    unfolding startsFrom
-    starts-turn zero enough none on = absurd (omega arith)
-    starts-turn (suc fuel) enough none on = (fuel, omega arith, rw (lt-ltb (p .at) (r .end) h, e, eq-eqb (q .refusal) 0 none))
-
--- the invariant of the loop over starts: what is left of a routine gives what the whole routine gives
-pub record StartsLeft (image : List ℕ) (limits : Limits) (needs : List ℕ) (r : Routine)
-    (marks₀ : List ℕ) (p₀ : Progress) (marks : List ℕ) (p : Progress) : Type 0 where
-  pub fuel : ℕ
-  pub enough : r .end ≤ p .at + fuel
-  pub same : startsFrom fuel image limits needs r marks p ≡ startsFrom (r .end - r .start) image limits needs r marks₀ p₀
-  pub low : r .start ≤ p .at
-  pub high : p .at ≤ r .end
-  pub falling : p .falling ≤ 256
-  pub need : p .need ≤ 257 * (r .index + 1)
-  pub count : p .count ≤ p .at
-  pub cells : length marks ≡ length marks₀
-
-module _ (image : List ℕ) (limits : Limits) (needs : List ℕ) (r : Routine) (marks₀ : List ℕ) (p₀ : Progress) where
-  pub starts-left-begin : (count : ℕ) → p₀ ≡ entered r count → r .start < r .end → count ≤ r .start → StartsLeft image limits needs r marks₀ p₀ marks₀ p₀
-  starts-left-begin count e some few =
-      rw e
-      (record {
-        fuel = r .end - r .start;
-        enough = omega arith;
-        same = refl;
-        low = omega arith;
-        high = omega arith;
-        falling = omega arith;
-        need = omega arith;
-        count = omega arith;
-        cells = refl;
-      })
-
-  pub starts-left-turn : (marks : List ℕ) (p : Progress) → StartsLeft image limits needs r marks₀ p₀ marks p → p .at < r .end →
-      (q : Progress) (marks′ : List ℕ) → startAt image limits needs r marks p ≡ (q, marks′) → AfterStart r marks marks′ p q → q .refusal ≡ 0 →
-      StartsLeft image limits needs r marks₀ p₀ marks′ q
-  starts-left-turn marks p s h q marks′ e w none =
-      let t = starts-turn image limits needs r marks p h q marks′ e (s .fuel) (s .enough) none (w .on none) in
-      record {
-        fuel = t .0;
-        enough = t .1;
-        same = sym (t .2) ∙ s .same;
-        low = omega (arith, s .low, w .low);
-        high = w .high;
-        falling = w .falling;
-        need = w .need;
-        count = w .count;
-        cells = w .cells ∙ s .cells;
-      }
-
--- a routine by its offsets
-pub routine-by : (image : List ℕ) (limits : Limits) (marks : List ℕ) (s : Sweep) (start end : ℕ) (p : Progress) →
-    start ≡ startOf image (s .index) → end ≡ endOf image (s .index) → p ≡ entered (record { index = s .index; start = start; end = end }) (s .count) →
-    routineSwept image limits marks s ≡
-    startsFrom (end - start) image limits (s .needs) (record { index = s .index; start = start; end = end }) marks p
-unfolding routineSwept
-routine-by image limits marks s start end p es ee ep = rw (ep, es, ee)
-
-module _ (image : List ℕ) (limits : Limits) (marks : List ℕ) (s : Sweep) (count : ℕ) where
-  pub routines-done : count ≤ s .index → routinesFrom (count - s .index) image limits marks s ≡ (s, marks)
-  unfolding routinesFrom
-  routines-done h = let none : count - s .index ≡ 0 = omega arith in rw none
-
-  module _ (h : s .index < count) (p : Progress) (marks′ : List ℕ) (e : routineSwept image limits marks s ≡ (p, marks′)) where
-    pub routines-last : (p .refusal ≡ 0 → ⊥) → routinesFrom (count - s .index) image limits marks s ≡ (stopped s p, marks′)
-    unfolding routinesFrom
-    routines-last some = let more : count - s .index ≡ suc (count - (s .index + 1)) = omega arith in rw (more, e, ne-eqb (p .refusal) 0 some)
-
-    routines-turn : p .refusal ≡ 0 →
-        routinesFrom (count - s .index) image limits marks s ≡ routinesFrom (count - (s .index + 1)) image limits marks′ (closed s p)
-    unfolding routinesFrom
-    routines-turn none = let more : count - s .index ≡ suc (count - (s .index + 1)) = omega arith in rw (more, e, eq-eqb (p .refusal) 0 none)
+use Rattle.checker.proofs.DecodePass.{fault-some, start-below}
 
 -- where one routine more begins
-pub begins-more : (image begins : List ℕ) (k at : ℕ) → k < length begins → at ≡ startOf image k → Begins image begins k → Begins image (set begins k at) (k + 1)
+pub begins-more : (image begins : List ℕ) (k at : ℕ) → k < length begins → at ≡ startOf image k → Begins image begins k →
+    Begins image (set begins k at) (k + 1)
 begins-more image begins k at inside e before =
     below-more (λ j. getD (set begins k at) j 0 ≡ startOf image j) k
     (λ j h. getD-set-other begins k j at 0 (λ z. omega arith) ∙ before j h)
     (getD-set-same begins k at 0 inside ∙ e)
 
--- a bound on every element holds after a store within it
-getD-set-le : (l : List ℕ) (i v k m : ℕ) → v ≤ m → ((j : ℕ) → getD l j 0 ≤ m) → getD (set l i v) k 0 ≤ m
-getD-set-le [] i v k m p h = h k
-getD-set-le (x ∷ l) zero v zero m p h = p
-getD-set-le (x ∷ l) zero v (suc k) m p h = h (suc k)
-getD-set-le (x ∷ l) (suc i) v zero m p h = h zero
-getD-set-le (x ∷ l) (suc i) v (suc k) m p h = getD-set-le l i v k m p (λ j. h (suc j))
+flag-most : (b : Bool) → flag b ≤ 1
+flag-most true = omega arith
+flag-most false = omega arith
 
-pub zeros-at : (n k : ℕ) → _≡_ {A = ℕ} (getD (replicate n 0) k 0) 0
-zeros-at zero k = refl
-zeros-at (suc n) zero = refl
-zeros-at (suc n) (suc k) = zeros-at n k
+-- no more numbers than there are pass a test
+pub count-most : (test : ℕ → Bool) (n : ℕ) → countBelow test n ≤ n
+unfolding countBelow
+count-most test zero = omega arith
+count-most test (suc n) = omega (arith, count-most test n, flag-most (test n))
 
--- the invariant of the loop over routines: what is left to sweep gives what the whole code gives
-pub record RoutinesLeft (image : List ℕ) (limits : Limits) (layout : Layout) (marks₀ marks : List ℕ) (s : Sweep) : Type 0 where
-  pub same : routinesFrom (layout .count - s .index) image limits marks s ≡ routinesFrom (countOf image) image limits marks₀ begun
-  pub between : Between image layout marks s
-
-pub routines-left-turns : (image : List ℕ) (limits : Limits) (layout : Layout) (marks₀ marks : List ℕ) (s : Sweep) →
-    RoutinesLeft image limits layout marks₀ marks s → s .index < layout .count → layout .count ≡ countOf image →
-    (p : Progress) (marks′ : List ℕ) → routineSwept image limits marks s ≡ (p, marks′) → Ended (endOf image (s .index)) (s .index) p →
-    p .refusal ≡ 0 → length marks′ ≡ length marks →
-    RoutinesLeft image limits layout marks₀ marks′ (closed s p)
-routines-left-turns image limits layout marks₀ marks s g h ec p marks′ e ended none cells =
+-- the next routine of a valid image
+pub routine-of : {image : List ℕ} {limits : Limits} {layout : Layout} {index start length : ℕ} → validated image limits ≡ Valid layout →
+    index < layout .count → start ≡ startOf image index → length ≡ lengthAt image index →
+    RoutineOf image (record { index = index; start = start; end = start + length; base = layout .base; code = layout .code; limits = limits })
+unfolding endOf
+routine-of {image} {limits} {layout} {index} valid below start-is length-is =
+    let b = valid-bounds image limits layout valid in
+    let rules = valid-rules image limits layout valid .1 in
     record {
-      same = sym (routines-turn image limits marks s (layout .count) h p marks′ e none) ∙ g .same;
-      between = record {
-        index = omega arith;
-        at = ended .all none ∙ sym (start-next image (s .index) (omega arith));
-        count = ended .count;
-        needs = λ k. getD-set-le (s .needs) (s .index) (p .need) k (257 * (s .index + 1)) (ended .need) (λ j. omega (arith, g .between .needs j));
-        cells = cells ∙ g .between .cells;
-      };
+      layout = rules;
+      inside = omega (arith, count-is image limits layout valid);
+      base-is = base-is image limits layout valid;
+      code-is = code-is image limits layout valid;
+      start-is = start-is;
+      end-is = rw (start-is, length-is);
+      index = omega (arith, b .count .1);
+      some = omega (arith, b .begins index below);
+      size = omega (arith, b .ends index below, b .size .1);
+      long = omega (arith, b .ends index below, b .end);
     }
+
+-- a routine after the decode pass
+module _ {image : List ℕ} {r : Routine} {x : cells.Routine} where
+  pub decode-refused : {number at need count : ℕ} {needs given marks : List ℕ} → RoutineDecoded image r x number at → (number ≡ 0 → ⊥) →
+      RoutineChecked image (r .limits) needs (r .index) given number at marks need count
+  decode-refused (refused l) not = code-refused l
+  decode-refused (filled f clear) not = absurd (not refl)
+
+  pub decode-filled : {number at : ℕ} → RoutineDecoded image r x number at → number ≡ 0 →
+      Filled image (r .limits) (r .index) x × ((o : ℕ) → r .end ≤ o → x .starts o ≡ 0)
+  decode-filled (refused l) none = absurd (omega (arith, fault-some (l .fault)))
+  decode-filled (filled f clear) none = (f, clear)
+
+-- what it is checked with, before and after
+module _ {image : List ℕ} {r : Routine} (routine : RoutineOf image r) {starts falls jumps pops pushes stores calls depths stack : List ℕ}
+    (clean : Clean (r .start) starts falls jumps pops pushes stores calls depths stack) {x : cells.Routine}
+    (f : Filled image (r .limits) (r .index) x) where
+  pub checkable : Checkable x depths stack
+  checkable =
+      record {
+        decoded = decoded f (routine .layout) (routine .inside);
+        cells = clean .depths-cells;
+        slots = clean .slots;
+        clear = λ o s. clean .no-depths o (omega (arith, s .low, f .entry, routine .start-is));
+      }
+
+  pub clean-after : {starts′ falls′ jumps′ pops′ pushes′ stores′ calls′ depths′ stack′ : List ℕ} →
+      Sized starts′ falls′ jumps′ pops′ pushes′ stores′ calls′ → ((o : ℕ) → r .end ≤ o → getD starts′ o 0 ≡ 0) → Left x depths depths′ stack′ →
+      Clean (r .end) starts′ falls′ jumps′ pops′ pushes′ stores′ calls′ depths′ stack′
+  clean-after sized clear left =
+      record {
+        sized = sized;
+        depths-cells = left .cells;
+        slots = left .slots;
+        no-starts = clear;
+        no-depths = λ o past.
+            ⊎-elim (λ s. absurd (omega (arith, s .high, f .end, routine .end-is))) (λ e. e ∙ clean .no-depths o (omega (arith, routine .some)))
+            (left .others o);
+      }
+
+-- what the flow's check asks of the marks and of the count
+module _ {image : List ℕ} {r : Routine} (routine : RoutineOf image r) {needs marks : List ℕ} {counted : ℕ}
+    (passed : RoutinesPassed image (r .limits) (r .index) needs marks counted) where
+  pub enough-marks : r .end ≤ length marks
+  enough-marks = omega (arith, routine .end-is, passed .size, end-inside image (r .index) (routine .inside))
+
+  pub few-starts : counted ≤ r .start
+  few-starts = omega (arith, routine .start-is, passed .counted, count-most (marked marks) (startOf image (r .index)))
+
+-- the state between routines
+pub record Between (image : List ℕ) (limits : Limits) (layout : Layout) (marks : List ℕ) (s : Sweep) : Type 0 where
+  pub refusal : s .refusal ≡ 0
+  pub index : s .index ≤ layout .count
+  pub at : s .at ≡ startOf image (s .index)
+  pub passed : RoutinesPassed image limits (s .index) (s .needs) marks (s .count)
+  pub needs : NeedsBelow (s .needs) (s .index)
+
+-- no routine yet
+pub between-none : {image : List ℕ} {limits : Limits} {layout : Layout} {marks : List ℕ} {s : Sweep} → marks ≡ replicate (sizeOf image) 0 →
+    (s .refusal ≡ 0) × (s .at ≡ 0) × (s .index ≡ 0) × (s .count ≡ 0) × (s .needs ≡ replicate 32 0) → Between image limits layout marks s
+between-none {image} {limits} {s = s} clear e =
+    record {
+      refusal = e .0;
+      index = omega (arith, e .2);
+      at = e .1 ∙ sym (start-zero image) ∙ ap (startOf image) (sym (e .2));
+      passed = rw (e .2, e .3, e .4, clear) (none-yet image limits);
+      needs = rw (e .2, e .4) no-needs;
+    }
+
+pub zeros-clean : (from : ℕ) →
+    Clean from (replicate 4096 0) (replicate 4096 0) (replicate 4096 0) (replicate 4096 0) (replicate 4096 0) (replicate 4096 0) (replicate 4096 0)
+    (replicate 4096 0) (replicate 4096 0)
+zeros-clean from =
+    let l = length-replicate {A = ℕ} 4096 0 in
+    record {
+      sized =
+          record {
+            starts-cells = l;
+            falls-cells = l;
+            jumps-cells = l;
+            pops-cells = l;
+            pushes-cells = l;
+            stores-cells = l;
+            calls-cells = l;
+          };
+      depths-cells = l;
+      slots = l;
+      no-starts = λ o past. zeros-at 4096 o;
+      no-depths = λ o past. zeros-at 4096 o;
+    }
+
+module _ {image : List ℕ} {limits : Limits} {layout : Layout} (valid : validated image limits ≡ Valid layout) {marks : List ℕ} {s : Sweep}
+    (between : Between image limits layout marks s) where
+  -- all routines pass
+  pub swept-ended : layout .count ≤ s .index → Swept image limits s marks × Small s
+  swept-ended all =
+      let b = valid-bounds image limits layout valid in
+      let every : s .index ≡ countOf image = omega (arith, between .index, count-is image limits layout valid) in
+      let inside : startOf image (s .index) ≤ 4096 = omega (arith, start-inside image (s .index), size-is image limits layout valid, b .size .1) in (
+        ended (between .refusal) (subst (λ (k : ℕ). RoutinesPassed image limits k (s .needs) marks (s .count)) every (between .passed)),
+        record {
+          at = omega (arith, between .at);
+          count = omega (arith, between .passed .counted, count-most (marked marks) (startOf image (s .index)));
+          needs = λ k. omega (arith, between .needs k, between .index, b .count .1);
+        },
+      )
+
+  -- the next routine
+  module _ {r : Routine} (routine : RoutineOf image r) (is : (r .index ≡ s .index) × (r .start ≡ s .at) × (r .limits ≡ limits)) where
+    pub routine-ready : RoutinesPassed image (r .limits) (r .index) (s .needs) marks (s .count)
+    routine-ready = rw (is .0, is .2) (between .passed)
+
+    module _ {marks′ : List ℕ} {number at need count : ℕ}
+        (x : RoutineChecked image (r .limits) (s .needs) (r .index) marks number at marks′ need count) where
+      here : RoutineChecked image limits (s .needs) (s .index) marks number at marks′ need count
+      here = rw (← is .0, ← is .2) x
+
+      pub need-fits : number ≡ 0 → need ≤ 65535
+      need-fits none = omega (arith, need-bound (checked-passed here none) (λ k below. between .needs k), is .0, routine .index)
+
+      pub swept-stopped : {s′ : Sweep} → (number ≡ 0 → ⊥) →
+          (s′ .refusal ≡ number) × (s′ .at ≡ at) × (s′ .index ≡ s .index) × (s′ .count ≡ s .count) × (s′ .needs ≡ s .needs) →
+          Swept image limits s′ marks′ × Small s′
+      swept-stopped {s′} not e =
+          let refusal = checked-refused here not in
+          let start : Start image (r .index) at = rw (is .0) (routine-refusal-at refusal .start) in
+          let low = start-below routine start in (
+            stopped {given = marks} (λ z. not (sym (e .0) ∙ z)) (omega (arith, e .2, is .0, routine .inside))
+                (rw (e .2, e .3, e .4) (between .passed)) (rw (e .0, e .1, e .2) refusal),
+            record {
+              at = omega (arith, e .1, low, routine .size);
+              count = omega (arith, e .3, is .1, few-starts routine routine-ready, routine .some, routine .size);
+              needs = λ k. rw (e .4) (omega (arith, between .needs k, is .0, routine .index));
+            },
+          )
+
+      pub between-more : {s′ : Sweep} → number ≡ 0 →
+          (s′ .refusal ≡ 0) × (s′ .at ≡ r .end) × (s′ .index ≡ s .index + 1) × (s′ .count ≡ count) × (s′ .needs ≡ set (s .needs) (s .index) need) →
+          Between image limits layout marks′ s′
+      between-more {s′} none e =
+          let passed = checked-passed here none in
+          let inside : s .index < countOf image = omega (arith, is .0, routine .inside) in
+          record {
+            refusal = e .0;
+            index = omega (arith, e .2, count-is image limits layout valid);
+            at =
+                e .1 ∙ routine .end-is ∙ ap (endOf image) (is .0) ∙ sym (start-next image (s .index) inside) ∙ ap (startOf image) (sym (e .2));
+            passed = rw (e .2, e .3, e .4) (one-more (routine .layout) inside (between .passed) passed);
+            needs = rw (e .2, e .4) (needs-bound passed (between .needs));
+          }

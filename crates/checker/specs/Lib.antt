@@ -1,4 +1,1 @@
-pub mod Depth
-pub mod Sweep
-pub mod Check
 pub mod Internal

@@ -1,19 +1,25 @@
 // The check of an image under limits: refusals 1 to 16, the marks, the need and the count.
+mod cells;
 mod decoding;
 mod depth;
+mod exploring;
+mod flow;
+mod jumps;
 mod marks;
-mod rules;
+mod measuring;
 mod sweep;
+mod uses;
 
+pub use rules::Verdict;
 ghost use mathlib.Core.Path.{_≡_};
-ghost use mathlib.Core.List.{List};
-ghost use Prim.Native.Nat.{ℕ, _≤_};
+ghost use Prim.Native.Nat.{_≤_};
 ghost use lib.ListN.{length};
 ghost use Rattle.image.specs.Image.{countOf, sizeOf};
 ghost use Rattle.image.specs.Validation.{validated};
 ghost use Rattle.image.specs.declared.Validated.the-variants.{Valid};
-ghost use Rattle.checker.specs.Check.{verdict, codeMarks, codeChecked, validatedChecked, checked};
-ghost use Rattle.checker.specs.Internal.{Begins, Swept};
+ghost use Rattle.rules.specs.Outcome.{Outcome};
+ghost use Rattle.acceptance.specs.Check.{checked};
+ghost use Rattle.checker.specs.Internal.{Begins, Small, VerdictOf, codeMarks, CodeOutcome};
 use crate::marks::clear;
 use crate::sweep::Sweep;
 use crate::sweep::sweep_routines;
@@ -23,17 +29,10 @@ use image::Validated;
 use image::routine_length;
 use image::validate;
 
-pub enum Verdict {
-    // The need and the number of starts.
-    Accepted(u16, u16),
-    // The refusal's number and offset.
-    Refused(u8, u16),
-}
-
 // What the sweep's last state says; 16 comes last.
 fn verdict_of(limits: Limits, layout: Layout, s: Sweep) -> Verdict
-    requires { ⌜ (1 ≤ layout .count) × (layout .count ≤ 32) × Swept s ⌝ }
-    ensures { λ r. ⌜ ((image : List ℕ) → layout .count ≡ countOf image → r ≡ verdict image limits s) ⌝ }
+    requires { ⌜ (1 ≤ layout .count) × (layout .count ≤ 32) × Small s ⌝ }
+    ensures { λ r. ⌜ VerdictOf limits (layout .count) s r ⌝ }
 {
     if s.refusal != 0 {
         return Verdict::Refused(s.refusal, s.at as u16);
@@ -76,7 +75,7 @@ fn routine_begins(image: &[u8], count: usize) -> [u16; 32]
 // The sweep of a valid image's code, over as many marks as it has bytes.
 fn check_code(image: &[u8], limits: Limits, layout: Layout, marks: &mut [u16]) -> Verdict
     requires { ⌜ (validated (now image) limits ≡ Valid layout) × (length (now marks) ≡ layout .size) ⌝ }
-    ensures { λ r. ⌜ codeChecked (now (image .entry)) limits ≡ (r, now (marks .exit)) ⌝ }
+    ensures { λ r. ⌜ CodeOutcome (now (image .entry)) limits r (now (marks .exit)) ⌝ }
 {
     clear(marks);
     let plain = stm8::plain_lengths();
@@ -101,7 +100,7 @@ fn check_code(image: &[u8], limits: Limits, layout: Layout, marks: &mut [u16]) -
 // A valid image: 5 where there are too few marks, else its code. Cells past the code never change.
 fn check_valid(image: &[u8], limits: Limits, layout: Layout, marks: &mut [u16]) -> Verdict
     requires { ⌜ validated (now image) limits ≡ Valid layout ⌝ }
-    ensures { λ r. ⌜ validatedChecked (now (image .entry)) limits (now (marks .entry)) (Valid layout) ≡ (r, now (marks .exit)) ⌝ }
+    ensures { λ r. ⌜ Outcome (now (image .entry)) limits (now (marks .entry)) r (now (marks .exit)) ⌝ }
 {
     let size = layout.size;
     if marks.len() < size {

@@ -17,7 +17,7 @@ use Rattle.machine.specs.declared.StepAnswer.{StepAnswer}
 use Rattle.machine.specs.declared.StepAnswer.the-variants as Step
 use Rattle.machine.specs.declared.RunAnswer.the-variants.{Finished, Spent, Refused}
 use Rattle.machine.specs.declared.Ran.{Ran}
-use Rattle.acceptance.specs.Rules.{reportedNeed}
+use Rattle.rules.specs.Depth.{reportedNeed}
 use Rattle.gate.specs.History.{Given, Request, step, run, Point, Answer, started, steppedTo, ranTo, Moment, pointAfter, momentAfter}
 use Rattle.gate.specs.History.{stepsFrom, afterSteps, pointOf, momentsOf, historyFrom, history}
 use Rattle.gate.specs.Guarantee.{All, Untrapped, MeetsOwed, Unchanged, Holds, Allowed}

@@ -22,7 +22,8 @@ use Rattle.machine.specs.Step.{spTrap, pcTrap, effectTrap, made, decodedStep, s
 use Rattle.machine.specs.declared.Registers.{Registers}
 use Rattle.machine.proofs.StepLaws.{step-refused, step-valid, finished, decodes, makes}
 use Rattle.machine.proofs.EffectForms.{effect-form}
-use Rattle.acceptance.specs.Rules.{before as usedBefore, reportedNeed}
+use Rattle.rules.specs.Depth.{reportedNeed}
+use Rattle.rules.specs.Rules.{before as usedBefore}
 use Rattle.gate.specs.History.{Given, Point, Fed, nothing, flow, fedTo, fed, owed}
 use Rattle.gate.proofs.CheckedCode.{CheckedCode}
 use Rattle.gate.proofs.Frames.{Runs, Good, runs, ends, frames-top, frames-room}

@@ -8,9 +8,10 @@ use Rattle.image.specs.declared.Limits.{Limits}
 use Rattle.image.specs.Image.{countOf, codeOf, codeAt}
 use Rattle.image.proofs.Layouts.{begins-before-end}
 use Rattle.image.proofs.Measuring.{end-inside}
-use Rattle.acceptance.specs.Rules.{begins, StartAt, Rules}
-use Rattle.acceptance.proofs.Starts.{found-in-code, start-high}
-use Rattle.acceptance.proofs.Mapping.{rules-map}
+use Rattle.rules.specs.Code.{begins}
+use Rattle.rules.specs.Rules.{StartAt, Rules}
+use Rattle.rules.proofs.Starts.{found-in-code, start-high}
+use Rattle.rules.proofs.Mapping.{rules-map}
 use Rattle.gate.proofs.CheckedCode.{CheckedAt, CheckedCode}
 
 -- a start of a routine of the table, at a depth

@@ -14,11 +14,13 @@ use Rattle.stm8.specs.declared.Flow.{Flow}
 use Rattle.image.specs.declared.Limits.{Limits}
 use Rattle.image.specs.Image.{baseOf, countOf, sizeOf, codeOf, startOf}
 use Rattle.image.specs.Rules.{LimitsRules, ImageRules}
-use Rattle.checker.specs.Depth.{falls}
-use Rattle.acceptance.specs.Rules.{Start, Calls, absolute, near, InstructionRules, InstructionUse, calling, reportedNeed}
-use Rattle.acceptance.proofs.Starts.{same-found}
-use Rattle.acceptance.proofs.Callees.{one-routine}
-use Rattle.acceptance.proofs.Flows.{call-depth}
+use Rattle.rules.specs.Depth.{falls}
+use Rattle.rules.specs.Depth.{reportedNeed}
+use Rattle.rules.specs.Code.{Start, Calls, absolute, near}
+use Rattle.rules.specs.Rules.{InstructionRules, InstructionUse, calling}
+use Rattle.rules.proofs.Starts.{same-found}
+use Rattle.rules.proofs.Callees.{one-routine}
+use Rattle.rules.proofs.Depths.{call-depth}
 
 -- at a start stands an instruction, decoded as the machine does, that meets the rules; the routine's need covers what it uses
 pub record CheckedAt (image : List ℕ) (limits : Limits) (At : ℕ → ℕ → ℕ → Type 0) (need : ℕ → ℕ) (r o d : ℕ) : Type 0 where

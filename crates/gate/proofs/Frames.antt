@@ -8,7 +8,7 @@ use lib.ListN.{getD}
 use Rattle.numbers.specs.Words.{wordAt}
 use Rattle.image.specs.declared.Limits.{Limits}
 use Rattle.image.specs.Image.{baseOf, mainOf}
-use Rattle.acceptance.specs.Rules.{reportedNeed}
+use Rattle.rules.specs.Depth.{reportedNeed}
 use Rattle.gate.specs.History.{Point}
 use Rattle.gate.proofs.CheckedCode.{CheckedCode, AfterCall, resumes}
 

@@ -5,8 +5,9 @@ use mathlib.Core.List.{List}
 use lib.ListN.{length}
 use Rattle.numbers.specs.Lists.{Bytes}
 use Rattle.image.specs.declared.Limits.{Limits}
-use Rattle.checker.specs.declared.Verdict.the-variants.{Accepted}
-use Rattle.acceptance.specs.Rules.{Rules, reportedNeed}
+use Rattle.rules.specs.declared.Verdict.the-variants.{Accepted}
+use Rattle.rules.specs.Depth.{reportedNeed}
+use Rattle.rules.specs.Rules.{Rules}
 use Rattle.acceptance.proofs.Accepting.{accepted-exactly}
 use Rattle.gate.specs.Start.{begun, cleared, started}
 use Rattle.gate.specs.History.{Request, emptyBook, pointStarted, history}

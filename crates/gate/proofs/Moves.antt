@@ -18,7 +18,7 @@ use Rattle.image.proofs.Granting.{within-granted}
 use Rattle.machine.specs.Step.{moveTrap, storeTrap, spAfter, bytesOfWidth, memoryAfter}
 use Rattle.machine.proofs.Stores.{sets-other, bytes-length, size-kept}
 use Rattle.machine.proofs.EffectForms.{PushesOwn}
-use Rattle.acceptance.specs.Rules.{StoreRules}
+use Rattle.rules.specs.Rules.{StoreRules}
 use Rattle.gate.specs.Guarantee.{Unchanged}
 use Rattle.gate.proofs.Frames.{Agree}
 

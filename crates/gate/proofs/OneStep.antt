@@ -20,7 +20,7 @@ use Rattle.stm8.specs.declared.Flow.the-variants.{Next, Branch, Jump, Call, Cal
 use Rattle.stm8.specs.declared.Effect.{Effect}
 use Rattle.image.specs.declared.Limits.{Limits}
 use Rattle.image.specs.Image.{baseOf, startOf}
-use Rattle.checker.specs.Depth.{movesDepth, popped, pushed, after}
+use Rattle.rules.specs.Depth.{movesDepth, popped, pushed, after}
 use Rattle.machine.specs.Reading.{readWord}
 use Rattle.machine.specs.Step.{Result, result, moveTrap, isCall, callTrap, effectTrap, spAfter, pcAfter, memoryAfter}
 use Rattle.machine.specs.declared.Registers.{Registers}
@@ -28,7 +28,9 @@ use Rattle.machine.specs.declared.Computed.{Computed}
 use Rattle.machine.specs.declared.StepAnswer.the-variants.{Made}
 use Rattle.machine.proofs.Stores.{word-stored, pushed-word, read-memory}
 use Rattle.machine.proofs.EffectForms.{PushesOwn, CallForm, Form}
-use Rattle.acceptance.specs.Rules.{branches, always, Calls, absolute, near, before, behind, calling, reportedNeed}
+use Rattle.rules.specs.Depth.{reportedNeed}
+use Rattle.rules.specs.Code.{branches, always, Calls, absolute, near}
+use Rattle.rules.specs.Rules.{before, behind, calling}
 use Rattle.gate.specs.History.{Book, Point, steppedTo, takenOff, lastOf, fedFlow, owedFlow}
 use Rattle.gate.specs.Guarantee.{Untrapped, MeetsOwed, Unchanged}
 use Rattle.gate.proofs.CheckedCode.{CheckedAt, CheckedCode, AfterCall, calls-fall, resumes}

@@ -22,10 +22,15 @@ use Rattle.image.specs.Image as Image
 use Rattle.image.specs.Validation as Validation
 use Rattle.image.specs.Access.{granted}
 use Rattle.image.specs.declared.Limits.{Limits}
-use Rattle.checker.specs.Depth as Depth
-use Rattle.checker.specs.Sweep as Sweep
-use Rattle.checker.specs.Check as Check
-use Rattle.checker.specs.declared.Verdict.the-variants.{Accepted}
+use Rattle.rules.specs.Depth as Depth
+use Rattle.rules.specs.Code as Code
+use Rattle.control_flow.specs.Routine as Routine
+use Rattle.control_flow.specs.Measuring as Measuring
+use Rattle.acceptance.specs.Cells as Cells
+use Rattle.acceptance.specs.Starts as Starts
+use Rattle.acceptance.specs.Exploration as Exploration
+use Rattle.acceptance.specs.Check as Check
+use Rattle.rules.specs.declared.Verdict.the-variants.{Accepted}
 use Rattle.gate.specs.Start.{started}
 use Rattle.gate.specs.History.{Request, pointStarted, history}
 use Rattle.gate.specs.Guarantee.{All, Allowed, Holds}
@@ -45,10 +50,10 @@ unfolding Check.checked Folds.firstIn Folds.total Checks.first Checks.both Check
     Words.wordAt decoded relative granted Image.versionOf Image.baseOf Image.countOf Image.lengthsOf Image.lengthAt Image.codeAt
     Image.codeOf Image.sizeOf Image.layoutOf Image.startOf Image.endOf Image.mainOf Validation.areaCheck Validation.apartCheck
     Validation.limitsCheck Validation.markCheck Validation.versionCheck Validation.lengthCheck Validation.lengthsCheck
-    Validation.layoutCheck Validation.refusal Validation.validated Depth.popped Depth.pushed Depth.after Sweep.reachCheck Sweep.agreeCheck
-    Sweep.insideCheck Sweep.depthCheck Sweep.storeCheck Sweep.jumpCheck Sweep.beginning Sweep.callee Sweep.callCheck Sweep.flowCheck
-    Sweep.offEndCheck Sweep.instructionCheck Sweep.moved Sweep.decodedAt Sweep.bytesAt Sweep.startAt Sweep.startsFrom Sweep.routineSwept
-    Sweep.routinesFrom Check.swept Check.verdict Check.codeChecked
+    Validation.layoutCheck Validation.refusal Validation.validated Depth.popped Depth.pushed Code.instructionAt Routine.jumpNumber
+    Routine.depthNumber Routine.countFrom Measuring.callUse Measuring.greatestUse Cells.targetCell Cells.storeCell Cells.beginning Cells.callee Cells.calleeCell Starts.startsFrom
+    Starts.startsOf Starts.listed Exploration.exploreFrom Exploration.mostMoved Exploration.biasFor Exploration.explored Check.firstAt
+    Check.biasOf Check.exploredIn Check.flowRefusing Check.routineRefusing Check.routinesFrom Check.swept Check.codeChecked
 sample-accepted = refl
 
 -- every element is below 256

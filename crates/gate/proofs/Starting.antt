@@ -12,9 +12,9 @@ use Rattle.numbers.specs.Words.{high, low, wordAt}
 use Rattle.image.specs.declared.Limits.{Limits}
 use Rattle.image.specs.Image.{countOf, startOf, mainOf}
 use Rattle.image.specs.Rules.{ImageRules}
-use Rattle.checker.specs.Check.{checked}
-use Rattle.checker.specs.declared.Verdict.{Verdict}
-use Rattle.checker.specs.declared.Verdict.the-variants.{Accepted, Refused}
+use Rattle.acceptance.specs.Check.{checked}
+use Rattle.rules.specs.declared.Verdict.{Verdict}
+use Rattle.rules.specs.declared.Verdict.the-variants.{Accepted, Refused}
 use Rattle.machine.proofs.Stores.{sets-other, word-stored}
 use Rattle.acceptance.proofs.Accepting.{accepted-exactly}
 use Rattle.gate.specs.Start.{Result, zeros, begun, cleared, byVerdict, started}

@@ -13,7 +13,7 @@ use Rattle.image.specs.Access.{Granted}
 use Rattle.image.specs.Validation.{refusal}
 use Rattle.machine.specs.declared.StepAnswer.the-variants as Step
 use Rattle.machine.specs.declared.RunAnswer.the-variants as Run
-use Rattle.acceptance.specs.Rules.{Start}
+use Rattle.rules.specs.Code.{Start}
 use Rattle.gate.specs.History.{Given, Request, givenTo, Answer, started, steppedTo, ranTo, Moment}
 
 -- every element of a list

@@ -3,8 +3,9 @@ use Prim.Native.Nat.{ℕ}
 use mathlib.Core.Path.{_≡_, refl}
 use mathlib.Core.List.{List, [], _∷_}
 use Rattle.image.specs.declared.Limits.{Limits}
-use Rattle.checker.specs.Check.{checked, numberOf}
-use Rattle.checker.specs.declared.Verdict.{Verdict}
+use Rattle.rules.specs.Outcome.{numberOf}
+use Rattle.acceptance.specs.Check.{checked}
+use Rattle.rules.specs.declared.Verdict.{Verdict}
 use Rattle.machine.specs.Step.{stepped}
 use Rattle.machine.specs.Run.{ran}
 use Rattle.machine.specs.declared.Registers.{Registers}

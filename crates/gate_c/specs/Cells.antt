@@ -3,8 +3,8 @@ use Prim.Native.Nat.{ℕ, _%_}
 use mathlib.Core.List.{List, [], _∷_, _++_}
 use lib.ListN.{length, getD, drop, replicate}
 use Rattle.image.specs.declared.Limits.{Limits}
-use Rattle.checker.specs.Check.{numberOf, offsetOf, needOf, startsOf}
-use Rattle.checker.specs.declared.Verdict.{Verdict}
+use Rattle.rules.specs.Outcome.{numberOf, offsetOf, needOf, startsOf}
+use Rattle.rules.specs.declared.Verdict.{Verdict}
 use Rattle.machine.specs.Step.{stepped, stepNumber}
 use Rattle.machine.specs.Run.{ran, runNumber}
 use Rattle.gate.specs.Start.{started}

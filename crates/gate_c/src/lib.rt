@@ -1,6 +1,7 @@
 // The gate for callers in C: numbers, slices and fixed arrays alone. include/gate.h has the declarations.
 ghost use mathlib.Core.Path.{_≡_};
-ghost use Rattle.checker.specs.Check.{checked, numberOf};
+ghost use Rattle.rules.specs.Outcome.{numberOf};
+ghost use Rattle.acceptance.specs.Check.{checked};
 ghost use Rattle.stm8.specs.Decoding.{decoded, decodingNumber};
 ghost use mathlib.Core.List.{[], _∷_};
 ghost use Rattle.gate_c.specs.Cells.{limitsBy, registersIn, registerCells, reportCells, stepCode, runCode};

@@ -17,7 +17,7 @@ use Rattle.image.specs.Validation.{limitsCheck, markCheck, versionCheck, layout
 use Rattle.image.specs.declared.Limits.{Limits}
 use Rattle.image.specs.declared.Validated.the-variants as Validated
 use Rattle.image.proofs.RefusalNumbers.{layout-numbered}
-use Rattle.checker.specs.declared.Verdict.the-variants.{Refused}
+use Rattle.rules.specs.declared.Verdict.the-variants.{Refused}
 use Rattle.listing.specs.Listing.{verdictLine, listing, imageIn, checkedInput}
 use Rattle.listing.proofs.Placing.{refused-listing, checked-refused, input-whole}
 

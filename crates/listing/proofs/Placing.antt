@@ -24,9 +24,9 @@ use Rattle.image.specs.ValidLayout.{ValidLayout}
 use Rattle.image.specs.declared.Limits.{Limits}
 use Rattle.image.specs.declared.Layout.{Layout}
 use Rattle.image.specs.declared.Validated.the-variants as Validated
-use Rattle.checker.specs.Check.{checked}
-use Rattle.checker.specs.declared.Verdict.{Verdict}
-use Rattle.checker.specs.declared.Verdict.the-variants.{Accepted, Refused}
+use Rattle.acceptance.specs.Check.{checked}
+use Rattle.rules.specs.declared.Verdict.{Verdict}
+use Rattle.rules.specs.declared.Verdict.the-variants.{Accepted, Refused}
 use Rattle.listing.specs.Listing.{verdictLine, startLine, lineAt, listing, longest, listed, imageIn, checkedInput}
 use Rattle.listing.specs.Internal.{Wrote}
 

@@ -17,9 +17,9 @@ use Rattle.image.specs.declared.Limits.{Limits}
 use Rattle.image.specs.declared.Validated.{Validated}
 use Rattle.image.specs.declared.Validated.the-variants.{Refused, Valid}
 use Rattle.image.proofs.Validity.{valid-rules}
-use Rattle.checker.specs.Check.{checked, validatedChecked}
-use Rattle.checker.specs.declared.Verdict.{Verdict}
-use Rattle.checker.specs.declared.Verdict.the-variants as Verdict
+use Rattle.acceptance.specs.Check.{checked, validatedChecked}
+use Rattle.rules.specs.declared.Verdict.{Verdict}
+use Rattle.rules.specs.declared.Verdict.the-variants as Verdict
 use Rattle.listing.specs.Decimal.{leading, lastDigit, decimal}
 use Rattle.listing.specs.Listing.{verdictLine, textAt, startLine, lineAt, startLines, listing, longest, imageIn, checkedInput}
 use Rattle.listing.specs.Internal.{Wrote}

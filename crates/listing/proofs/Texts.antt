@@ -10,10 +10,10 @@ use Rattle.stm8.specs.declared.Instruction.{Instruction}
 use Rattle.stm8.specs.declared.Decoded.the-variants.{Found}
 use Rattle.image.specs.Image.{codeOf, sizeOf}
 use Rattle.image.specs.declared.Limits.{Limits}
-use Rattle.checker.specs.Check.{checked}
-use Rattle.checker.specs.declared.Verdict.the-variants.{Accepted}
+use Rattle.acceptance.specs.Check.{checked}
+use Rattle.rules.specs.declared.Verdict.the-variants.{Accepted}
 use Rattle.acceptance.proofs.Accepting.{accept-sound}
-use Rattle.acceptance.proofs.Starts.{found-in-code}
+use Rattle.rules.proofs.Starts.{found-in-code}
 
 module _ (image : List ℕ) (limits : Limits) (marks : List ℕ) (bytes : Bytes (codeOf image)) where
   pub start-text : {need count : ℕ} → checked image limits marks .0 ≡ Accepted need count → (offset : ℕ) → offset < sizeOf image →

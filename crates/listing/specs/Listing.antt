@@ -13,9 +13,9 @@ use Rattle.disassembly.specs.Notation.{wordDigits, text}
 use Rattle.disassembly.specs.declared.Written.{Written}
 use Rattle.disassembly.specs.declared.Written.the-variants.{Bytes, TooShort}
 use Rattle.image.specs.Image.{baseOf, codeOf, sizeOf, limitsOf}
-use Rattle.checker.specs.Check.{checked}
-use Rattle.checker.specs.declared.Verdict.{Verdict}
-use Rattle.checker.specs.declared.Verdict.the-variants.{Accepted, Refused}
+use Rattle.acceptance.specs.Check.{checked}
+use Rattle.rules.specs.declared.Verdict.{Verdict}
+use Rattle.rules.specs.declared.Verdict.the-variants.{Accepted, Refused}
 use Rattle.listing.specs.Decimal.{decimal}
 
 abbrev pub lineFeed : List ℕ

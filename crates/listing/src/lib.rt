@@ -7,10 +7,9 @@ ghost use Prim.Native.Nat.{_≤_};
 ghost use lib.ListN.{length};
 ghost use Rattle.image.specs.Validation.{validated};
 ghost use Rattle.image.specs.declared.Validated.the-variants.{Valid};
-ghost use Rattle.checker.specs.Check.{checked};
+ghost use Rattle.acceptance.specs.Check.{checked};
 ghost use Rattle.listing.specs.Listing.{listing, longest, listed, imageIn, checkedInput};
 ghost use Rattle.listing.specs.Internal.{Wrote};
-use checker::Verdict;
 use checker::check;
 use disassembly::Written;
 use image::Layout;
@@ -20,6 +19,7 @@ use image::limits_of;
 use image::validate;
 use lines::push_starts;
 use lines::write_verdict;
+use rules::Verdict;
 
 // No listing is longer: 21 bytes for line one, and at most 35 for each of at most 4,096 code bytes.
 pub const LONGEST: usize = 143381;

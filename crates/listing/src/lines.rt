@@ -14,9 +14,9 @@ use crate::writing::push_bytes;
 use crate::writing::push_decimal;
 use crate::writing::push_text;
 use crate::writing::push_word;
-use checker::Verdict;
 use decoder::decode;
 use image::Layout;
+use rules::Verdict;
 use stm8::Decoded;
 
 // A word and two numbers.

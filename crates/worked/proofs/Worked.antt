@@ -18,9 +18,14 @@ use Rattle.stm8.specs.Effects.{relative}
 use Rattle.image.specs.Image as Image
 use Rattle.image.specs.Validation as Validation
 use Rattle.image.specs.Access.{granted}
-use Rattle.checker.specs.Depth as Depth
-use Rattle.checker.specs.Sweep as Sweep
-use Rattle.checker.specs.Check as Check
+use Rattle.rules.specs.Depth as Depth
+use Rattle.rules.specs.Code as Code
+use Rattle.control_flow.specs.Routine as Routine
+use Rattle.control_flow.specs.Measuring as Measuring
+use Rattle.acceptance.specs.Cells as Cells
+use Rattle.acceptance.specs.Starts as Starts
+use Rattle.acceptance.specs.Exploration as Exploration
+use Rattle.acceptance.specs.Check as Check
 use Rattle.machine.specs.Reading as Reading
 use Rattle.machine.specs.Computing as Computing
 use Rattle.machine.specs.Step as Step
@@ -32,10 +37,11 @@ unfolding xor Bits.bit Checks.first Checks.both Checks.under Checks.unless Check
     Accumulator.added Accumulator.resultNZ Modify.NEG WordResults.MUL decoded relative granted Image.versionOf Image.baseOf Image.countOf
     Image.lengthsOf Image.lengthAt Image.codeAt Image.codeOf Image.sizeOf Image.layoutOf Image.startOf Image.endOf Image.mainOf
     Validation.areaCheck Validation.apartCheck Validation.limitsCheck Validation.markCheck Validation.versionCheck Validation.lengthCheck
-    Validation.lengthsCheck Validation.layoutCheck Validation.refusal Validation.validated Depth.popped Depth.pushed Depth.after
-    Sweep.reachCheck Sweep.agreeCheck Sweep.insideCheck Sweep.depthCheck Sweep.storeCheck Sweep.jumpCheck Sweep.beginning Sweep.callee
-    Sweep.callCheck Sweep.flowCheck Sweep.offEndCheck Sweep.instructionCheck Sweep.moved Sweep.decodedAt Sweep.bytesAt Sweep.startAt
-    Sweep.startsFrom Sweep.routineSwept Sweep.routinesFrom Check.swept Check.verdict Check.codeChecked Check.checked
+    Validation.lengthsCheck Validation.layoutCheck Validation.refusal Validation.validated Depth.popped Depth.pushed Code.instructionAt
+    Routine.jumpNumber Routine.depthNumber Routine.countFrom Measuring.callUse Measuring.greatestUse Cells.targetCell Cells.storeCell Cells.beginning Cells.callee Cells.calleeCell
+    Starts.startsFrom Starts.startsOf Starts.listed Exploration.exploreFrom Exploration.mostMoved Exploration.biasFor Exploration.explored
+    Check.firstAt Check.biasOf Check.exploredIn Check.flowRefusing Check.routineRefusing Check.routinesFrom Check.swept Check.codeChecked
+    Check.checked
     Reading.readByte Computing.computed Step.spTrap Step.pcTrap Step.moveTrap Step.storeTrap Step.callTrap Step.effectTrap Step.pcAfter
     Step.memoryAfter Step.made Step.decodedStep Step.stepValid Step.stepRefusal Step.stepped
 all-hold = refl

@@ -1,5 +1,5 @@
--- The cases that document 01 marks with ●, in its order: one table. What it expects is held against the definitions that the contracts of
--- `check` and `step` cite.
+-- The cases that document 01 marks with ●, in its order, as W-202 has them, and W-202's own: one table. What it expects is held against the
+-- definitions that the contracts of `check` and `step` cite.
 use Prim.Native.Nat.{ℕ}
 use mathlib.Core.List.{List, [], _∷_, _++_}
 use lib.ListN.{length, replicate}
@@ -7,9 +7,9 @@ use Rattle.numbers.specs.Ascii.{ascii}
 use Rattle.numbers.specs.Words.{high, low}
 use Rattle.image.specs.Image.{sizeOf}
 use Rattle.image.specs.declared.Limits.{Limits}
-use Rattle.checker.specs.Check.{checked}
-use Rattle.checker.specs.declared.Verdict.{Verdict}
-use Rattle.checker.specs.declared.Verdict.the-variants.{Accepted, Refused}
+use Rattle.acceptance.specs.Check.{checked}
+use Rattle.rules.specs.declared.Verdict.{Verdict}
+use Rattle.rules.specs.declared.Verdict.the-variants.{Accepted, Refused}
 use Rattle.machine.specs.Step.{Result, result, stepped}
 use Rattle.machine.specs.declared.Registers.{Registers}
 use Rattle.machine.specs.declared.StepAnswer.the-variants.{Made}
@@ -70,12 +70,14 @@ twoRoutines = imageOf (3 ∷ 4 ∷ []) (0x88 ∷ 0x84 ∷ 0x81 ∷ 0xCD ∷ 0x80
 -- not clear in the other.
 abbrev pub cases : List Case
 cases =
-    -- 6, start not reached
-    checks (routine (0x81 ∷ 0x9D ∷ [])) usual (Refused 6 1) ∷
-    -- 7, depths disagree
-    checks (routine (0x27 ∷ 0x01 ∷ 0x88 ∷ 0x81 ∷ [])) usual (Refused 7 3) ∷
-    -- 10, jump into an instruction
-    checks (routine (0x27 ∷ 0x01 ∷ 0xA6 ∷ 0x00 ∷ 0x81 ∷ [])) usual (Refused 10 2) ∷
+    -- the example of 6, start not reached: W-202 tests 15 first
+    checks (routine (0x81 ∷ 0x9D ∷ [])) usual (Refused 15 1) ∷
+    -- 7, depths disagree, at the routine's first byte
+    checks (routine (0x27 ∷ 0x01 ∷ 0x88 ∷ 0x81 ∷ [])) usual (Refused 7 0) ∷
+    -- 10, jump into an instruction, at the jump
+    checks (routine (0x27 ∷ 0x01 ∷ 0xA6 ∷ 0x00 ∷ 0x81 ∷ [])) usual (Refused 10 0) ∷
+    -- W-202: a loop tested at the bottom is accepted with need 2 and count 4
+    checks (routine (0x20 ∷ 0x01 ∷ 0x4A ∷ 0x26 ∷ 0xFD ∷ 0x81 ∷ [])) usual (Accepted 2 4) ∷
     -- 11, depth leaves 0 to 255, or RET above 0
     checks (routine (0x84 ∷ 0x81 ∷ [])) usual (Refused 11 0) ∷
     -- 12, store not allowed

@@ -30,15 +30,11 @@ fn main() {
         println!("{model}");
     }
     let [decode_time, decode_rate] = decodes();
-    let lines = [
-        decode_time,
-        decode_rate,
-        decodes_alone(),
-        checks(),
-        single_steps(),
-        runs("run, counting loop", Workload::counter),
-        runs("run, mixed loop", Workload::mixed),
-    ];
+    let mut lines = vec![decode_time, decode_rate, decodes_alone()];
+    lines.extend(checks());
+    lines.push(single_steps());
+    lines.push(runs("run, counting loop", Workload::counter));
+    lines.push(runs("run, mixed loop", Workload::mixed));
     let installed = lines.iter().any(|line| line.simulator.is_some());
     print_table(&lines, installed);
 }
@@ -52,10 +48,10 @@ fn processor() -> Option<String> {
 fn print_table(lines: &[Line], installed: bool) {
     let cell = |value: Option<f64>| value.map_or("-".to_string(), |value| format!("{value:.2}"));
     let simulator = |value: Option<f64>| if installed { cell(value) } else { "not installed".to_string() };
-    println!("{:<26} {:>16} {:>10} {:>10} {:>14}", "", "", "library", "twin", "uCsim");
+    println!("{:<28} {:>16} {:>10} {:>10} {:>14}", "", "", "library", "twin", "uCsim");
     for line in lines {
         let (library, twin) = (cell(line.library), cell(line.twin));
-        println!("{:<26} {:>16} {library:>10} {twin:>10} {:>14}", line.name, line.unit, simulator(line.simulator));
+        println!("{:<28} {:>16} {library:>10} {twin:>10} {:>14}", line.name, line.unit, simulator(line.simulator));
     }
     println!("The library has no decode without the text; the twin's shows how much of its time the text takes.");
     println!("Speed of the library, as a multiple of the other's:");
@@ -67,7 +63,7 @@ fn print_table(lines: &[Line], installed: bool) {
         };
         if line.library.is_some() {
             let (twin, simulator) = (cell(speed(line.twin)), simulator(speed(line.simulator)));
-            println!("{:<26} {:>16} {:>10} {twin:>10} {simulator:>14}", line.name, "", "");
+            println!("{:<28} {:>16} {:>10} {twin:>10} {simulator:>14}", line.name, "", "");
         }
     }
 }
@@ -143,19 +139,32 @@ fn decodes_alone() -> Line {
 
 // Checking.
 
-fn checks() -> Line {
-    const TIMES: usize = 5;
-    let image = full_image();
+/// A mixed image; one in which a check that goes over the code until nothing new is reached goes over it 1,000 times; and straight
+/// code, to see that twice the bytes take twice the time.
+fn checks() -> [Line; 6] {
+    [
+        check_of("check of 4,096 bytes", full_image()),
+        check_of("check, 1,000 jumps back", backward_image()),
+        check_of("check, straight, 512 bytes", straight_image(512)),
+        check_of("check, straight, 1,024 bytes", straight_image(1_024)),
+        check_of("check, straight, 2,048 bytes", straight_image(2_048)),
+        check_of("check, straight, 4,096 bytes", straight_image(4_096)),
+    ]
+}
+
+fn check_of(name: &'static str, image: Vec<u8>) -> Line {
     let (mut marks, mut twin_marks) = ([0; MARKS_ENOUGH], [0; MARKS_ENOUGH]);
     let verdict = gate_host::check(&image, &LIMITS, &mut marks);
     assert_eq!(verdict, twin::check(&image, &LIMITS, &mut twin_marks));
     assert!(verdict.is_ok() && marks == twin_marks);
+    // As many bytes are checked in every round.
+    let times = 5 * 4_096 / twin::Image::parse(&image).expect("an image").code.len();
     let (library, twin) = best_of(
-        || (0..TIMES).for_each(|_| _ = black_box(gate_host::check(black_box(&image), &LIMITS, &mut marks))),
-        || (0..TIMES).for_each(|_| _ = black_box(twin::check(black_box(&image), &LIMITS, &mut twin_marks))),
+        || (0..times).for_each(|_| _ = black_box(gate_host::check(black_box(&image), &LIMITS, &mut marks))),
+        || (0..times).for_each(|_| _ = black_box(twin::check(black_box(&image), &LIMITS, &mut twin_marks))),
     );
-    let micro = |time| nanoseconds(time, TIMES).map(|nano| nano / 1e3);
-    Line { name: "check of 4,096 bytes", unit: "us", library: micro(library), twin: micro(twin), simulator: None, rate: false }
+    let micro = |time| nanoseconds(time, times).map(|nano| nano / 1e3);
+    Line { name, unit: "us", library: micro(library), twin: micro(twin), simulator: None, rate: false }
 }
 
 /// An accepted image of 4,096 code bytes: 32 routines of 128, each but the first with a call to the one before.
@@ -178,6 +187,30 @@ fn full_image() -> Vec<u8> {
         routines.push(code);
     }
     slu::image_of(BASE, &routines)
+}
+
+/// An accepted image of 4,096 code bytes with 1,000 jumps back, each of which but the last is reached from the next one alone.
+fn backward_image() -> Vec<u8> {
+    // JRA over RET; 999 times JRA to the next such JRA, and JRA back to the last jump back; NOPs; JRA back.
+    let mut code = vec![0x20, 0x01, 0x81];
+    code.extend([0x20, 0x02, 0x20, 0xFA].repeat(999));
+    // The first goes to RET.
+    code[6] = 0xFB;
+    let last = code.len() - 2;
+    code.resize(4_094, 0x9D);
+    code.extend([0x20, (last as isize - 4_096) as u8]);
+    slu::image_of(BASE, &[code])
+}
+
+/// An accepted image of one routine without jumps.
+fn straight_image(bytes: usize) -> Vec<u8> {
+    // PUSH A; LD A,#5; ADD A,$10; LD $11,A; INC $0012; LDW X,#$1234; PUSHW X; LD A,($01,SP); POPW X; POP A; MUL X,A
+    const BLOCK: [u8; 20] =
+        [0x88, 0xA6, 0x05, 0xBB, 0x10, 0xB7, 0x11, 0x72, 0x5C, 0x00, 0x12, 0xAE, 0x12, 0x34, 0x89, 0x7B, 0x01, 0x85, 0x84, 0x42];
+    let mut code = BLOCK.repeat((bytes - 1) / BLOCK.len());
+    code.resize(bytes - 1, 0x9D);
+    code.push(0x81);
+    slu::image_of(BASE, &[code])
 }
 
 // Steps and runs.

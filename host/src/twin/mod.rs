@@ -1,8 +1,8 @@
-//! An independent twin of the loader in plain Rust, written from document 01 and the STM8 manual alone, never from the proved
-//! code.
+//! An independent twin of the loader in plain Rust, written from documents 01 and 02 and the STM8 manual alone, never from the
+//! proved code.
 //!
-//! What is worth comparing is what two people read out of the same two documents, so nothing here is shared with the library but
-//! the names of [`crate::Limits`] and the like. It is also the yardstick of speed.
+//! What is worth comparing is what two people read out of the same documents, so nothing here is shared with the library but the
+//! names of [`crate::Limits`] and the like. It is also the yardstick of speed.
 
 mod check;
 mod decode;

@@ -1,6 +1,7 @@
--- `checker::check` meets its contract.
+-- `checker::check` meets its contract: its outcome is a declared one, and there is one only.
 use mathlib.Core.Path.{sym, _∙_}
-use Rattle.checker.specs.Check.{checked}
+use Rattle.rules.specs.Outcome.{invalid}
+use Rattle.acceptance.proofs.Accepting.{outcome-checked}
 use borrow.Author.Needs.{needs}
 use Rattle.checker.proofs.check.Statement.{statement}
 use Rattle.checker.proofs.check.Tie as tie
@@ -11,15 +12,10 @@ check-valid-requires c κs =
     sym (c4 .validate .ensures) ∙ c .before .before .v2 .given .1
 
 returns : tie.Need-returns
-unfolding checked
-returns c =
-    rw (← c .before .before .before .validate .ensures, c .before .v .given .1)
+returns c = outcome-checked _ _ _ (invalid (sym (c .before .before .before .validate .ensures) ∙ c .before .v .given .1))
 
 returns-2 : tie.Need-returns-2
-unfolding checked
-returns-2 c =
-    let c4 = c .before .before .before .before in
-    rw (← c4 .before .before .before .validate .ensures, c4 .before .v2 .given .1) (c .before .before .check-valid .ensures)
+returns-2 c = outcome-checked _ _ _ (c .before .before .check-valid .ensures)
 
 pub check-spec : {M : Type 1} → statement M
 check-spec =

@@ -4,8 +4,8 @@ use mathlib.Core.Path.{refl, sym, ap, _∙_}
 use mathlib.Core.List.{List}
 use borrow.Author.Needs.{needs}
 use denote.Ref.{now}
-use Rattle.checker.specs.Check.{checked}
-use Rattle.checker.specs.declared.Verdict.{Verdict}
+use Rattle.acceptance.specs.Check.{checked}
+use Rattle.rules.specs.declared.Verdict.{Verdict}
 use Rattle.listing.proofs.Placing.{listed-short, listed-fits, refused-listing, checked-refused}
 use Rattle.listing.proofs.Sizes.{listing-size}
 use Rattle.listing.proofs.list.Statement.{statement}

@@ -4,7 +4,7 @@ use mathlib.Core.Path.{refl, sym, ap, _∙_}
 use mathlib.Core.List.{List}
 use borrow.Author.Needs.{needs}
 use denote.Ref.{now}
-use Rattle.checker.specs.declared.Verdict.{Verdict}
+use Rattle.rules.specs.declared.Verdict.{Verdict}
 use Rattle.listing.specs.Listing.{imageIn, checkedInput}
 use Rattle.listing.proofs.Placing.{listed-short, listed-fits, refused-listing, input-short, input-listed}
 use Rattle.listing.proofs.Sizes.{input-listing-size}

@@ -4,8 +4,8 @@ use mathlib.Core.Path.{sym, ap}
 use mathlib.Core.List.{List}
 use borrow.Author.Needs.{needs}
 use denote.Ref.{now}
-use Rattle.checker.specs.Check.{checked}
-use Rattle.checker.specs.declared.Verdict.{Verdict}
+use Rattle.acceptance.specs.Check.{checked}
+use Rattle.rules.specs.declared.Verdict.{Verdict}
 use Rattle.image.proofs.Layouts.{valid-bounds, size-is}
 use Rattle.listing.proofs.Appending.{_then_}
 use Rattle.listing.proofs.Placing.{accepted-listing, refused-listing}

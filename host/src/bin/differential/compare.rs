@@ -1,6 +1,6 @@
 //! One call to the library and to the twin, every cell compared, and the tally of answers.
 
-use crate::generator::Case;
+use crate::program::{Case, Known, Shape};
 use crate::random::Random;
 use gate_host::cells::{self, RegisterCells, ReportCells};
 use gate_host::{twin, Accepted, Ending, Limits, Refused, Registers, Step, Trap, MEMORY_BYTES, TEXT_BYTES};
@@ -24,6 +24,8 @@ pub struct Tally {
     pub run_steps: u64,
     /// Steps made one by one, for each op-code of the three pages.
     pub opcodes: Vec<[u64; 256]>,
+    /// Control flow of the images that were checked as they were made, in the order of `Shape::ALL`.
+    pub shapes: [u64; Shape::ALL.len()],
     /// Trap 22: PC not in the code, bytes that run out, a call whose next address is 10000.
     pub trap_22: [u64; 3],
 }
@@ -31,6 +33,12 @@ pub struct Tally {
 impl Tally {
     pub fn new() -> Tally {
         Tally { opcodes: vec![[0; 256]; 3], ..Tally::default() }
+    }
+
+    pub fn note_shapes(&mut self, case: &Case) {
+        for (times, &shape) in self.shapes.iter_mut().zip(&Shape::ALL) {
+            *times += u64::from(case.shapes.contains(&shape));
+        }
     }
 
     /// The op-codes of which a step was made.
@@ -122,22 +130,26 @@ pub fn check(case: &Case, marks: &[u16], tally: &mut Tally) -> Compared<Option<A
     same("check: number, and offset, need, count", &(number, report), &report_cells(verdict))?;
     same_cells("check: mark", &library, &other)?;
     tally.check.add(number);
-    if let Some(depths) = &case.depths {
-        by_construction(depths, number, report, &library)?;
+    if let Some(known) = &case.known {
+        by_construction(known, number, report, &library)?;
     }
     Ok(verdict.ok())
 }
 
-/// An image that was made to be accepted is, with the depths that it was made with, or is refused with 16.
-fn by_construction(depths: &[u16], number: u8, report: ReportCells, marks: &[u16]) -> Compared<()> {
-    match number {
-        cells::OK => {
+/// An image is answered as it was made to be: with the depths that it was made with, or with the first refusal that it has.
+fn by_construction(known: &Known, number: u8, report: ReportCells, marks: &[u16]) -> Compared<()> {
+    match (known, number) {
+        (Known::Accepted(depths), cells::OK) => {
             let count = depths.iter().filter(|&&mark| mark != 0).count();
             same("check: count, against construction", &usize::from(report[2]), &count)?;
             same_cells("check: mark, against construction", &marks[..depths.len()], depths)
         }
-        16 => Ok(()),
-        _ => Err(format!("check: an image that was made to be accepted is refused {number} {}", report[0])),
+        (Known::Accepted(_), 16) => Ok(()),
+        (Known::Accepted(_), _) => Err(format!("check: an image that was made to be accepted is refused {number} {}", report[0])),
+        (Known::Refused(refusal, offset), _) if (number, report[0]) == (*refusal, *offset) => Ok(()),
+        (Known::Refused(refusal, offset), _) => {
+            Err(format!("check: an image that was made to be refused {refusal} {offset} is answered {number} {}", report[0]))
+        }
     }
 }
 

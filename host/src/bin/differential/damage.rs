@@ -1,12 +1,14 @@
 //! Damage to images and limits, so that every refusal is met, and met beside others.
 
-use crate::generator::{Case, Generator};
+use crate::generator::Generator;
+use crate::program::Case;
 use gate_host::twin::{self, Instruction, Place, Target};
 use gate_host::Limits;
 
 impl Generator<'_> {
     pub fn damage(&mut self, case: &mut Case) {
-        case.depths = None;
+        case.known = None;
+        case.shapes.clear();
         for _ in 0..self.random.pick(&[1, 1, 1, 2, 3]) {
             self.damage_once(case);
         }

@@ -1,27 +1,18 @@
-//! Images and limits: routines that are accepted by construction, noise, and borders of the layout.
+//! Images and limits: routines whose answer is known by construction, noise, and borders of the layout.
 
+use crate::flow;
+use crate::program::{Case, Flaws, Program, Routine};
 use crate::random::Random;
 use gate_host::twin::{self, Instruction, Modify, Place, Target};
 use gate_host::{slu, Limits};
 
 const CODE_AT_MOST: usize = 4_096;
 
-/// What a check is given, but for the contents of the marks.
-#[derive(Clone)]
-pub struct Case {
-    pub image: Vec<u8>,
-    pub limits: Limits,
-    pub marks: usize,
-    /// What acceptance leaves in the marks of the code, where the image was made to be accepted: all but refusal 16 is then ruled
-    /// out.
-    pub depths: Option<Vec<u16>>,
-}
-
 /// One entry of the op-code pages that is in the set.
 pub struct Template {
-    opcode: Vec<u8>,
-    length: usize,
-    instruction: Instruction,
+    pub opcode: Vec<u8>,
+    pub length: usize,
+    pub instruction: Instruction,
 }
 
 /// Every op-code of the set.
@@ -49,7 +40,7 @@ pub struct Generator<'a> {
     pub templates: &'a [Template],
 }
 
-impl Generator<'_> {
+impl<'a> Generator<'a> {
     // Limits.
 
     pub fn limits(&mut self) -> Limits {
@@ -136,77 +127,101 @@ impl Generator<'_> {
             1..=3 => 1_000,
             _ => 200,
         };
-        let mut program =
-            Program { code: Vec::new(), marks: Vec::new(), calls: Vec::new(), lengths: Vec::new(), firsts: Vec::new(), limits };
+        let mut program = Program::new(limits);
         for left in (1..=routines).rev() {
             let room = budget.saturating_sub(program.code.len()) / left;
-            self.routine(&mut program, room.max(8));
+            let flaws = Flaws::none(self.random.pick(&[4, 30, 255]));
+            self.routine(&mut program, room.max(8), flaws);
         }
-        let code = program.code.len();
-        let base = match self.random.below(4) {
-            0 => 0x8000,
-            1 => 0x1_0000 - code,
-            _ => self.random.between(0x8000, 0x1_0000 - code),
-        };
-        let depths = Some(std::mem::take(&mut program.marks));
-        Case { image: program.image(base), limits, marks: code + self.random.pick(&[0, 0, 1, 9]), depths }
+        program.case(self.random)
     }
 
-    /// Adds a routine of at most `room` bytes, which are at least 8.
-    fn routine(&mut self, program: &mut Program, room: usize) {
-        let first = program.code.len();
-        let deepest = self.random.pick(&[4, 30, 255]);
-        let mut routine = Routine { depth: 0, deepest, starts: Vec::new(), jumps: Vec::new() };
+    /// Adds a routine of at most `room` bytes, which are at least 8; flaws may make it longer.
+    pub fn routine(&mut self, program: &mut Program, room: usize, flaws: Flaws) {
+        let mut routine = Routine::new(program, flaws);
         // Room is left for one more instruction and the routine's end.
         let body = self.random.below(room - 7);
-        while program.code.len() - first < body {
-            self.instruction(program, &mut routine);
-        }
+        self.fill(program, &mut routine, program.code.len() + body);
         if self.random.one_in(5) {
             routine.jump(program, &[0x20, 0]);
         } else {
-            if routine.depth > 0 {
-                routine.add(program, &[0x5B, routine.depth as u8]);
-                routine.depth = 0;
+            if !(flaws.any_depth() && self.random.one_in(4)) {
+                routine.settle(program, 0);
             }
-            routine.add(program, &[0x81]);
+            routine.add(program, &[0x81], routine.depth);
+        }
+        if flaws.islands && self.random.one_in(3) {
+            self.last_island(program, &mut routine);
+        }
+        if flaws.crosses {
+            self.cross(program, &mut routine);
         }
         self.resolve(program, &routine);
-        program.firsts.push(first);
-        program.lengths.push(program.code.len() - first);
+        program.finish(routine);
+    }
+
+    /// Adds instructions, loops and islands up to `end`; the last instruction may go 4 bytes past it.
+    pub fn fill(&mut self, program: &mut Program, routine: &mut Routine, end: usize) {
+        while program.code.len() < end {
+            let left = end - program.code.len();
+            match self.random.below(24) {
+                0 if left > flow::LOOP_FRAME => self.bottom_loop(program, routine, left),
+                1 if left > flow::LOOP_FRAME && routine.flaws.slips => self.slipping_loop(program, routine, left),
+                2 if left >= flow::ISLAND && routine.flaws.islands => self.island(program, routine),
+                _ => self.instruction(program, routine),
+            }
+        }
     }
 
     /// Adds one instruction that is allowed where it stands, or none if the op-code that came up has no allowed form.
     fn instruction(&mut self, program: &mut Program, routine: &mut Routine) {
-        let template = &self.templates[self.random.below(self.templates.len())];
-        let mut bytes = template.opcode.clone();
-        bytes.resize_with(template.length, || self.random.byte());
+        let template = self.template();
         match template.instruction {
             Instruction::Jump(0, _) => {
-                routine.jump(program, &bytes);
+                routine.jump(program, &[0x20, 0]);
                 self.reach(program, routine);
             }
-            Instruction::Jump(..) | Instruction::BitJump { .. } => routine.jump(program, &bytes),
             Instruction::Ret => {
                 let here = program.code.len() + 1;
-                if routine.depth == 0 && routine.jumps.iter().any(|jump| jump.reaches(here)) {
-                    routine.add(program, &bytes);
+                let returns = routine.depth == 0 || routine.flaws.any_depth() && self.random.one_in(4);
+                if returns && routine.jumps.iter().any(|jump| jump.reaches(here)) {
+                    routine.add(program, &[0x81], routine.depth);
                     self.reach(program, routine);
                 }
             }
-            _ => {
-                let allowed = self.operands(program, routine, template, &mut bytes);
-                if let Some(after) = allowed.and_then(|()| self.depth_after(routine, template, &mut bytes)) {
-                    routine.add(program, &bytes);
-                    routine.depth = after;
-                }
-            }
+            _ => self.falling(program, routine, template),
         }
+    }
+
+    /// Adds an instruction that falls to the next one, if it has an allowed form.
+    pub fn falling(&mut self, program: &mut Program, routine: &mut Routine, template: &Template) {
+        let mut bytes = self.any_operands(template);
+        if matches!(template.instruction, Instruction::Jump(..) | Instruction::BitJump { .. }) {
+            routine.jump(program, &bytes);
+            return;
+        }
+        let allowed = self.operands(program, routine, template, &mut bytes);
+        if let Some(after) = allowed.and_then(|()| self.depth_after(routine, template, &mut bytes)) {
+            routine.add(program, &bytes, after);
+        }
+    }
+
+    /// Any op-code of the set.
+    pub fn template(&mut self) -> &'a Template {
+        &self.templates[self.random.below(self.templates.len())]
+    }
+
+    /// An instruction of this op-code, whether or not it is allowed.
+    pub fn any_operands(&mut self, template: &Template) -> Vec<u8> {
+        let mut bytes = template.opcode.clone();
+        bytes.resize_with(template.length, || self.random.byte());
+        bytes
     }
 
     /// Mends the operands of calls and stores, if they can be mended.
     fn operands(&mut self, program: &mut Program, routine: &Routine, template: &Template, bytes: &mut [u8]) -> Option<()> {
-        let (at, depth, end) = (program.code.len(), usize::from(routine.depth), bytes.len());
+        // An offset into the stack is a byte, however deep it is.
+        let (at, depth, end) = (program.code.len(), routine.depth.clamp(0, 255) as usize, bytes.len());
         match template.instruction {
             Instruction::Call(_) => {
                 let callee = self.random.pick_if_any(&program.firsts)?;
@@ -244,26 +259,35 @@ impl Generator<'_> {
         Some(())
     }
 
-    /// The depth after an instruction, its count mended where it has one, if that is a depth.
-    fn depth_after(&mut self, routine: &Routine, template: &Template, bytes: &mut [u8]) -> Option<u16> {
-        let depth = routine.depth;
+    /// The depth after an instruction, its count mended where it has one, if the routine may have that depth.
+    fn depth_after(&mut self, routine: &Routine, template: &Template, bytes: &mut [u8]) -> Option<i32> {
+        let (depth, Flaws { shallowest, deepest, .. }) = (routine.depth, routine.flaws);
         let after = match template.instruction {
             Instruction::PushA | Instruction::PushImmediate(_) | Instruction::PushLong(_) => depth + 1,
             Instruction::Pushw(_) => depth + 2,
-            Instruction::PopA | Instruction::PopLong(_) => depth.checked_sub(1)?,
-            Instruction::Popw(_) => depth.checked_sub(2)?,
+            Instruction::PopA | Instruction::PopLong(_) => depth - 1,
+            Instruction::Popw(_) => depth - 2,
             Instruction::SubSp(_) => {
-                let most = usize::from(routine.deepest - depth);
-                bytes[1] = if self.random.one_in(4) { most } else { self.random.below(most + 1) } as u8;
-                depth + u16::from(bytes[1])
+                bytes[1] = self.count(deepest - depth);
+                depth + i32::from(bytes[1])
             }
             Instruction::AddSp(_) => {
-                bytes[1] = self.random.below(usize::from(depth) + 1) as u8;
-                depth - u16::from(bytes[1])
+                bytes[1] = self.count(depth - shallowest);
+                depth - i32::from(bytes[1])
             }
             _ => depth,
         };
-        (after <= routine.deepest).then_some(after)
+        (shallowest..=deepest).contains(&after).then_some(after)
+    }
+
+    /// How many bytes of the stack to give or take: at most so many, and often just that.
+    fn count(&mut self, most: i32) -> u8 {
+        let most = most.min(255) as usize;
+        if self.random.one_in(4) {
+            most as u8
+        } else {
+            self.random.below(most + 1) as u8
+        }
     }
 
     /// A short address in the grant.
@@ -289,21 +313,15 @@ impl Generator<'_> {
         let near: Vec<usize> = (0..routine.jumps.len()).filter(|&number| routine.jumps[number].reaches(here)).collect();
         let jump = &mut routine.jumps[self.random.pick(&near)];
         jump.fixed = true;
-        program.code[jump.next - 1] = (here - jump.next) as u8;
+        program.aim(jump.next, here);
         routine.depth = jump.depth;
     }
 
     /// The jumps that are still free go to starts of their depth; their own start is always one.
     fn resolve(&mut self, program: &mut Program, routine: &Routine) {
         for jump in routine.jumps.iter().filter(|jump| !jump.fixed) {
-            let distance = |start: usize| start as isize - jump.next as isize;
-            let near: Vec<isize> = routine
-                .starts
-                .iter()
-                .filter(|&&(start, depth)| depth == jump.depth && (-128..=127).contains(&distance(start)))
-                .map(|&(start, _)| distance(start))
-                .collect();
-            program.code[jump.next - 1] = self.random.pick(&near) as u8;
+            let targets = routine.targets(jump, |depth| depth == jump.depth);
+            program.aim(jump.next, self.random.pick(&targets));
         }
     }
 
@@ -345,7 +363,7 @@ impl Generator<'_> {
             _ => self.random.between(0x8000, 0x1_0000 - code.len()),
         };
         let marks = code.len() + self.random.below(3);
-        Case { image: slu::image(base as u16, &lengths, &code), limits, marks, depths: None }
+        Case { image: slu::image(base as u16, &lengths, &code), limits, marks, known: None, shapes: Vec::new() }
     }
 
     // Borders of the layout.
@@ -371,64 +389,6 @@ impl Generator<'_> {
         let top = 0x1_0000 - total;
         let base = self.random.pick(&[0x7FFF, 0x8000, 0x8001, top - 1, top, (top + 1).min(0xFFFF)]);
         let marks = total - self.random.pick(&[0, 0, 0, 1]);
-        Case { image: slu::image(base as u16, &lengths, &code), limits, marks, depths: None }
-    }
-}
-
-/// The code as it grows, routine after routine.
-struct Program {
-    code: Vec<u8>,
-    marks: Vec<u16>,
-    /// CALL operands: where they stand, and the offset of the routine that they name.
-    calls: Vec<(usize, usize)>,
-    lengths: Vec<usize>,
-    firsts: Vec<usize>,
-    limits: Limits,
-}
-
-impl Program {
-    fn image(mut self, base: usize) -> Vec<u8> {
-        for &(operand, callee) in &self.calls {
-            let address = (base + callee) as u16;
-            self.code[operand..operand + 2].copy_from_slice(&address.to_be_bytes());
-        }
-        slu::image(base as u16, &self.lengths, &self.code)
-    }
-}
-
-/// A jump whose target is not chosen yet, unless it is fixed.
-struct Jump {
-    /// The offset after it; its own offset byte is the one before.
-    next: usize,
-    depth: u16,
-    fixed: bool,
-}
-
-impl Jump {
-    /// Whether it can still be made to go forward to `here`.
-    fn reaches(&self, here: usize) -> bool {
-        !self.fixed && here - self.next <= 127
-    }
-}
-
-/// The routine that is being added.
-struct Routine {
-    depth: u16,
-    deepest: u16,
-    starts: Vec<(usize, u16)>,
-    jumps: Vec<Jump>,
-}
-
-impl Routine {
-    fn add(&mut self, program: &mut Program, bytes: &[u8]) {
-        self.starts.push((program.code.len(), self.depth));
-        program.code.extend(bytes);
-        program.marks.push(self.depth + 1);
-        program.marks.resize(program.code.len(), 0);
-    }
-
-    fn jump(&mut self, program: &mut Program, bytes: &[u8]) {
-        self.add(program, bytes);
-        self.jumps.push(Jump { next: program.code.len(), depth: self.depth, fixed: false });
+        Case { image: slu::image(base as u16, &lengths, &code), limits, marks, known: None, shapes: Vec::new() }
     }
 }

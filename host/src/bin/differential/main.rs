@@ -4,17 +4,20 @@
 //!
 //! Cases are made until at least N checks were compared, and N single steps that were made. A difference prints the seed, the
 //! case and both answers, and `--seed S --case K` makes that case again. The exit status is 1 where something differs, or where
-//! some answer was never met.
+//! some answer, or some control flow that W-202 decides on, was never met.
 
 mod compare;
 mod damage;
+mod flow;
 mod generator;
+mod program;
 mod random;
 
 use compare::{Answers, Compared, Memories, Tally};
 use gate_host::cells::{RegisterCells, FINISHED, OK, SPENT};
 use gate_host::{Limits, MEMORY_BYTES};
-use generator::{Case, Generator, Template};
+use generator::{Generator, Template};
+use program::{Case, Shape};
 use random::Random;
 use std::env;
 use std::process::exit;
@@ -121,7 +124,9 @@ impl<'a> Trial<'a> {
         let mut make = Generator { random, templates };
         let case = match make.random.below(20) {
             0 => make.border(),
-            1..=5 => make.noise(),
+            1..=4 => make.noise(),
+            5..=6 => make.tangle(),
+            7..=9 => make.flawed(),
             _ => make.accepted(),
         };
         Trial { make, tally, memories, case, call: String::new() }
@@ -129,6 +134,7 @@ impl<'a> Trial<'a> {
 
     fn whole(&mut self) -> Compared<()> {
         let need = self.check()?;
+        self.tally.note_shapes(&self.case);
         if let Some(need) = need {
             self.cut_stack(need)?;
         }
@@ -293,7 +299,7 @@ impl<'a> Trial<'a> {
     }
 }
 
-/// Prints the counts, and says whether some answer that a function can give was never met.
+/// Prints the counts, and says whether some answer that a function can give, or some control flow, was never met.
 fn print(options: &Options, cases: u64, templates: &[Template], tally: &Tally) -> bool {
     println!("seed {}, {cases} cases", options.seed);
     let mut missing = false;
@@ -302,6 +308,10 @@ fn print(options: &Options, cases: u64, templates: &[Template], tally: &Tally) -
     missing |= row("step", &tally.step, [OK, 1, 2, 3, 4, 17, 21, 22, 23, 24, 25, FINISHED]);
     missing |= row("run", &tally.run, [1, 2, 3, 4, 17, 21, 22, 23, 24, 25, FINISHED, SPENT]);
     missing |= row("decode", &tally.decode, [OK, 8, 9]);
+    for (shape, times) in Shape::ALL.iter().zip(tally.shapes) {
+        println!("images with {}: {times}", shape.name());
+        missing |= times == 0;
+    }
     let [pc, bytes, call] = tally.trap_22;
     println!("trap 22 of steps: PC {pc}, bytes {bytes}, call before 10000 {call}");
     println!("steps made in runs: {}", tally.run_steps);

@@ -1,5 +1,5 @@
 -- `checker::depth::popped` meets its contract.
-use Rattle.checker.specs.Depth.{popped}
+use Rattle.rules.specs.Depth.{popped}
 use borrow.Author.Needs.{needs}
 use Rattle.checker.proofs.depth.popped.Statement.{statement}
 use Rattle.checker.proofs.depth.popped.Tie as tie
@@ -10,6 +10,5 @@ popped-spec =
     tie.close
     (tie.spec
     (λ c κs. search needs)
-    (λ c. search needs)
-    (λ c. rw (← c .before .before .moves-depth .ensures, c .before .if1 .taken))
+    (λ c. rw (← c .before .moves-depth .ensures, c .if1 .taken))
     (λ c. rw (← c .before .moves-depth .ensures, c .if1 .left)))

@@ -1,5 +1,5 @@
 -- `checker::depth::pushed` meets its contract.
-use Rattle.checker.specs.Depth.{pushed}
+use Rattle.rules.specs.Depth.{pushed}
 use borrow.Author.Needs.{needs}
 use Rattle.checker.proofs.depth.pushed.Statement.{statement}
 use Rattle.checker.proofs.depth.pushed.Tie as tie
@@ -10,6 +10,5 @@ pushed-spec =
     tie.close
     (tie.spec
     (λ c κs. search needs)
-    (λ c. search needs)
-    (λ c. (rw (← c .before .before .moves-depth .ensures, c .before .if1 .taken), search needs))
-    (λ c. (rw (← c .before .moves-depth .ensures, c .if1 .left), search needs)))
+    (λ c. rw (← c .before .moves-depth .ensures, c .if1 .taken))
+    (λ c. rw (← c .before .moves-depth .ensures, c .if1 .left)))

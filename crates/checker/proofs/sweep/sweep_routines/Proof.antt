@@ -1,112 +1,96 @@
--- `checker::sweep::sweep_routines` meets its contract. The loop's invariant: what is left to sweep gives what the whole gives.
-use Prim.Native.Nat.{_-_}
+-- `checker::sweep::sweep_routines` meets its contract. The loop's invariant: the routines so far pass, and from the next one on nothing is a start
+-- yet.
+use Prim.Native.Nat.{ℕ, _-_}
 use mathlib.Core.Path.{sym, ap, _∙_}
-use native.Mathlib.Nat.{sub-zero}
-use Rattle.image.proofs.Measuring.{start-zero, start-inside}
-use Rattle.image.proofs.Layouts.{valid-bounds, count-is, size-is}
-use Rattle.checker.specs.declared.sweep.Sweep.{Sweep}
-use Rattle.checker.proofs.Routines.{RoutinesLeft, routines-left-turns, routines-last, routines-done, zeros-at}
 use native.Mathlib.Omega.{arith}
-use denote.Ref.{now}
+use lib.ListN.{length, length-replicate}
+use Rattle.checker.specs.Internal.{Clean}
+use Rattle.checker.proofs.Routines.{Between, between-none, zeros-clean, routine-ready, need-fits, swept-stopped, between-more, swept-ended}
 use Rattle.checker.proofs.sweep.sweep_routines.Statement.{statement}
 use Rattle.checker.proofs.sweep.sweep_routines.Tie as tie
 
 abbrev Inv-loop : tie.InvT-loop
-Inv-loop image limits layout plain after-72 after-90 begins marks₀ s₀ marks s = RoutinesLeft image limits layout marks₀ marks s
+Inv-loop image limits layout plain after-72 after-90 begins marks₀ starts₀ falls₀ jumps₀ pops₀ pushes₀ stores₀ calls₀ depths₀ stack₀ s₀ marks starts falls jumps pops pushes stores calls depths stack s =
+    Between image limits layout marks s × Clean (s .at) starts falls jumps pops pushes stores calls depths stack
 
 abbrev μ-loop : tie.MeasureT-loop
-μ-loop image limits layout plain after-72 after-90 begins marks₀ s₀ marks s = layout .count - s .index
+μ-loop image limits layout plain after-72 after-90 begins marks₀ starts₀ falls₀ jumps₀ pops₀ pushes₀ stores₀ calls₀ depths₀ stack₀ s₀ marks starts falls jumps pops pushes stores calls depths stack s =
+    layout .count - s .index
 
 loop-holds : tie.Need-loop-holds Inv-loop μ-loop
-loop-holds c =
-    let image = now (c .before .before .args .image) in
-    record {
-      same = rw (sub-zero, count-is _ _ _ (c .before .before .pre .0 .valid));
-      between =
-          record {
-            index = omega arith;
-            at = sym (start-zero image);
-            count = omega arith;
-            needs = λ k. omega (arith, zeros-at 32 k);
-            cells = c .before .before .pre .1;
-          };
-    }
+loop-holds c = (between-none (c .before .before .before .pre .3) (c .begun .ensures), zeros-clean _)
 
-sweep-routine-requires : tie.Need-sweep-routine-requires Inv-loop μ-loop
-sweep-routine-requires c κs =
-    let c4 = c .before .before .before .before in
-    (c4 .before .before .before .pre .0, c4 .loop .inv .between, c .before .if1 .taken)
+routine-at-requires : tie.Need-routine-at-requires Inv-loop μ-loop
+routine-at-requires c κs =
+    let l = c .before .before .before in
+    (l .before .before .before .before .pre .0, c .if1 .taken, l .loop .inv .0 .at)
+
+check-routine-requires : tie.Need-check-routine-requires Inv-loop μ-loop
+check-routine-requires c κs =
+    let r = c .before .before .before .before .before .before .before .before .before .before .before .before in
+    let l = r .before .before .before .before in
+    let p = l .before .before .before .before .pre in
+    let is = r .routine-at .ensures .1 in
+    let routine = r .routine-at .ensures .0 in (
+      routine,
+      p .1,
+      λ k below. p .2 k (omega (arith, is .0, r .before .if1 .taken)),
+      rw (is .1) (l .loop .inv .1),
+      routine-ready (p .0) (l .loop .inv .0) routine is,
+    )
 
 same-length : tie.Need-same-length Inv-loop μ-loop
 same-length c =
-    let c4 = c .before .before .before .before in
-    let c8 = c4 .before .before .before .before in
-    let c12 = c8 .before .before .before .before in
-    c4 .before .sweep-routine .kept .1 .1 .1 .1 .1 .1 .1 .0 ∙ c8 .before .before .loop .inv .between .cells ∙ sym (c12 .before .pre .1)
+    let x = c .before .before .before .before .before in
+    let r = x .before .before .before .before .before .before .before .before .before .before .before .before .before in
+    let l = r .before .before .before .before in
+    x .check-routine .kept .1 .1 .1 .1 .1 .1 .1 .1 .1 .1 .1 .1 .1 .1 .1 .1 .1 .0 ∙ l .loop .inv .0 .passed .size ∙
+    sym (ap length (l .before .before .before .before .pre .3) ∙ length-replicate {A = ℕ} _ 0)
 
 returns : tie.Need-returns Inv-loop μ-loop
 returns c =
-    let c4 = c .before .before .before .before in
-    let c8 = c4 .before .before .before .before in
-    let c12 = c8 .before .before .before .before in
-    let g = c8 .before .before .loop .inv in
-    let h = c4 .before .before .before .if1 .taken in
-    let routine = c4 .before .sweep-routine in
-    let ended = routine .ensures .1 in
-    let bounds = valid-bounds _ _ _ (c12 .before .pre .0 .valid) in (
-      sym (g .same) ∙ routines-last _ _ _ _ _ h _ _ (routine .ensures .0) (c .before .if2 .taken) ∙
-          ap (λ x. (x, routine .last .1 .1 .1 .1 .1 .1 .1 .0)) (sym (c .stopped .ensures)),
-      rw (c .stopped .ensures)
-          (record {
-            at = omega (arith, ended .at, bounds .ends (c8 .before .before .loop .s .index) h, bounds .size .1);
-            count = ended .count;
-            needs = λ k. omega (arith, g .between .needs k, g .between .index, bounds .count .1);
-          }),
-    )
+    let x = c .before .before .before .before .before in
+    let r = x .before .before .before .before .before .before .before .before .before .before .before .before .before in
+    let l = r .before .before .before .before in
+    swept-stopped (l .before .before .before .before .pre .0) (l .loop .inv .0) (r .routine-at .ensures .0) (r .routine-at .ensures .1)
+    (x .check-routine .ensures .0) (c .before .if2 .taken) (c .stopped .ensures)
 
 closed-requires : tie.Need-closed-requires Inv-loop μ-loop
 closed-requires c κs =
-    let c4 = c .before .before .before .before in
-    let c8 = c4 .before .before .before .before in
-    let c12 = c8 .before .before .before .before in
-    omega (arith, c4 .sweep-routine .ensures .1 .need, c4 .before .before .if1 .taken, valid-bounds _ _ _ (c12 .pre .0 .valid) .count .1)
+    let x = c .before .before .before .before in
+    let r = x .before .before .before .before .before .before .before .before .before .before .before .before .before in
+    let l = r .before .before .before .before in
+    let routine = r .routine-at .ensures .0 in
+    let is = r .routine-at .ensures .1 in (
+      omega (arith, is .0, routine .index),
+      need-fits (l .before .before .before .before .pre .0) (l .loop .inv .0) routine is (x .check-routine .ensures .0) (c .if2 .left),
+    )
 
 loop-less : tie.Need-loop-less Inv-loop μ-loop
 loop-less c =
-    let c4 = c .before .before .before .before in
-    omega (arith, ap (λ (x : Sweep). x .index) (c .closed .ensures), c4 .before .before .before .if1 .taken)
+    let x = c .before .before .before .before .before in
+    let r = x .before .before .before .before .before .before .before .before .before .before .before .before .before in
+    omega (arith, c .closed .ensures .2, r .before .if1 .taken)
 
 loop-again : tie.Need-loop-again Inv-loop μ-loop
 loop-again c =
-    let c4 = c .before .before .before .before in
-    let c8 = c4 .before .before .before .before in
-    let c12 = c8 .before .before .before .before in
-    let h = c4 .before .before .before .if1 .taken in
-    let count = count-is _ _ _ (c12 .before .pre .0 .valid) in
-    let routine = c4 .before .sweep-routine in
-    rw (c .closed .ensures)
-    (routines-left-turns _ _ _ _ _ _ (c8 .before .before .loop .inv) h count _ _ (routine .ensures .0) (routine .ensures .1) (c .before .if2 .left)
-    (routine .kept .1 .1 .1 .1 .1 .1 .1 .0))
+    let x = c .before .before .before .before .before in
+    let r = x .before .before .before .before .before .before .before .before .before .before .before .before .before in
+    let l = r .before .before .before .before in (
+      between-more (l .before .before .before .before .pre .0) (l .loop .inv .0) (r .routine-at .ensures .0) (r .routine-at .ensures .1)
+          (x .check-routine .ensures .0) (c .before .if2 .left) (c .closed .ensures),
+      rw (c .closed .ensures .1) (x .check-routine .ensures .1 (c .before .if2 .left)),
+    )
 
 same-length-2 : tie.Need-same-length-2 Inv-loop μ-loop
 same-length-2 c =
-    let c4 = c .before .before .before .before in
-    c .before .before .before .loop .inv .between .cells ∙ sym (c4 .before .before .pre .1)
+    let l = c .before .before .before in
+    l .loop .inv .0 .passed .size ∙ sym (ap length (l .before .before .before .before .pre .3) ∙ length-replicate {A = ℕ} _ 0)
 
 returns-2 : tie.Need-returns-2 Inv-loop μ-loop
 returns-2 c =
-    let c4 = c .before .before .before .before in
-    let g = c .before .before .before .loop .inv in
-    let valid = c4 .before .before .pre .0 .valid in
-    let bounds = valid-bounds _ _ _ valid in
-    let begins = start-inside (now (c4 .before .before .args .image)) (c .before .before .before .loop .s .index) in (
-      sym (g .same) ∙ routines-done _ _ _ _ _ (c .if1 .left),
-      record {
-        at = omega (arith, g .between .at, begins, size-is _ _ _ valid, bounds .size .1);
-        count = g .between .count;
-        needs = λ k. omega (arith, g .between .needs k, g .between .index, bounds .count .1);
-      },
-    )
+    let l = c .before .before .before in
+    swept-ended (l .before .before .before .before .pre .0) (l .loop .inv .0) (c .if1 .left)
 
 pub sweep-routines-spec : {M : Type 1} → statement M
 sweep-routines-spec =
@@ -114,8 +98,10 @@ sweep-routines-spec =
     (tie.spec
     Inv-loop
     μ-loop
+    (λ c κs. tt)
     loop-holds
-    sweep-routine-requires
+    routine-at-requires
+    check-routine-requires
     (λ c κs. tt)
     same-length
     returns

@@ -1,0 +1,15 @@
+pub mod Knowing
+pub mod Following
+pub mod Invariant
+pub mod Growing
+pub mod Edges
+pub mod Visits
+pub mod Paths
+pub mod Ends
+pub mod Numbers
+pub mod DepthNumbers
+pub mod Outcomes
+pub mod Rising
+pub mod Using
+pub mod Counting
+pub mod Measures

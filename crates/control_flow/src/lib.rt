@@ -1,0 +1,1 @@
+// The check of a routine by its cells: definitions and laws, no code.
