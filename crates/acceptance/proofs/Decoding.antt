@@ -21,7 +21,7 @@ use Rattle.rules.proofs.Starts.{same-found, start-low, start-high}
 use Rattle.acceptance.specs.Cells.{Stored, Filled}
 use Rattle.acceptance.specs.Starts.{startsOf, codeNumber, cellAt, cellsOf}
 use Rattle.acceptance.specs.Check.{firstAt}
-use Rattle.acceptance.proofs.Listing.{listed-in, in-listed, first-none, first-found}
+use Rattle.acceptance.proofs.Offsets.{listed-in, in-listed, first-none, first-found}
 use Rattle.acceptance.proofs.StartList.{starts-rise, listed-start, start-listed}
 
 -- a start at which 8, 9 and 15 pass

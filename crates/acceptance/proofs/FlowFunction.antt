@@ -30,7 +30,7 @@ use Rattle.acceptance.specs.Cells.{Filled}
 use Rattle.acceptance.specs.Starts.{startsOf, cellsOf}
 use Rattle.acceptance.specs.Exploration.{mostMoved, biasFor}
 use Rattle.acceptance.specs.Check.{Refusing, nowhere, firstAt, orElse, flowRefusing, biasOf, exploredIn, reachNumber, markAll}
-use Rattle.acceptance.proofs.Listing.{In, head, tail, first-none, first-found}
+use Rattle.acceptance.proofs.Offsets.{In, head, tail, first-none, first-found}
 use Rattle.acceptance.proofs.StartList.{in-none, starts-rise, listed-start, start-listed}
 use Rattle.acceptance.proofs.Graphs.{decoded}
 use Rattle.acceptance.proofs.Exploring.{explored-all}

@@ -1,4 +1,4 @@
-pub mod Listing
+pub mod Offsets
 pub mod StartList
 pub mod Decoding
 pub mod Exploring

@@ -8,7 +8,7 @@ use native.Mathlib.Omega.{arith}
 use lib.ListN.{length, getD, length-set}
 use lib.Seq.{getD-set-same, getD-set-other}
 use Rattle.acceptance.specs.Check.{markAll}
-use Rattle.acceptance.proofs.Listing.{In, head, tail}
+use Rattle.acceptance.proofs.Offsets.{In, head, tail}
 
 -- the greatest value of a function over a list, 0 where the list is empty
 abbrev pub greatest : (ℕ → ℕ) → List ℕ → ℕ

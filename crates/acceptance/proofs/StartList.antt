@@ -13,7 +13,7 @@ use Rattle.image.specs.Image.{startOf, endOf}
 use Rattle.rules.specs.Code.{instructionAt, Start, begins, follows}
 use Rattle.rules.proofs.Starts.{same-found, found-inside}
 use Rattle.acceptance.specs.Starts.{bytesOf, startsFrom, startsOf}
-use Rattle.acceptance.proofs.Listing.{In, head, tail, Rising, none, next, rising-from}
+use Rattle.acceptance.proofs.Offsets.{In, head, tail, Rising, none, next, rising-from}
 
 -- an instruction stands where there are bytes of one
 found-of : (d : Decoded) → (bytesOf d ≡ 0 → ⊥) → (i : Instruction) × (d ≡ Found i (bytesOf d))

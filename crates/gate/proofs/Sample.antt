@@ -51,9 +51,10 @@ unfolding Check.checked Folds.firstIn Folds.total Checks.first Checks.both Check
     Image.codeOf Image.sizeOf Image.layoutOf Image.startOf Image.endOf Image.mainOf Validation.areaCheck Validation.apartCheck
     Validation.limitsCheck Validation.markCheck Validation.versionCheck Validation.lengthCheck Validation.lengthsCheck
     Validation.layoutCheck Validation.refusal Validation.validated Depth.popped Depth.pushed Code.instructionAt Routine.jumpNumber
-    Routine.depthNumber Routine.countFrom Measuring.callUse Measuring.greatestUse Cells.targetCell Cells.storeCell Cells.beginning Cells.callee Cells.calleeCell Starts.startsFrom
-    Starts.startsOf Starts.listed Exploration.exploreFrom Exploration.mostMoved Exploration.biasFor Exploration.explored Check.firstAt
-    Check.biasOf Check.exploredIn Check.flowRefusing Check.routineRefusing Check.routinesFrom Check.swept Check.codeChecked
+    Routine.depthNumber Routine.countFrom Measuring.callUse Measuring.greatestUse Cells.targetCell Cells.storeCell Cells.beginning
+    Cells.callee Cells.calleeCell Starts.startsFrom Starts.startsOf Starts.listed Exploration.exploreFrom Exploration.mostMoved
+    Exploration.biasFor Exploration.explored Check.firstAt Check.biasOf Check.exploredIn Check.flowRefusing Check.routineRefusing
+    Check.routinesFrom Check.swept Check.codeChecked
 sample-accepted = refl
 
 -- every element is below 256

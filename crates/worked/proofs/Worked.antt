@@ -38,10 +38,10 @@ unfolding xor Bits.bit Checks.first Checks.both Checks.under Checks.unless Check
     Image.lengthsOf Image.lengthAt Image.codeAt Image.codeOf Image.sizeOf Image.layoutOf Image.startOf Image.endOf Image.mainOf
     Validation.areaCheck Validation.apartCheck Validation.limitsCheck Validation.markCheck Validation.versionCheck Validation.lengthCheck
     Validation.lengthsCheck Validation.layoutCheck Validation.refusal Validation.validated Depth.popped Depth.pushed Code.instructionAt
-    Routine.jumpNumber Routine.depthNumber Routine.countFrom Measuring.callUse Measuring.greatestUse Cells.targetCell Cells.storeCell Cells.beginning Cells.callee Cells.calleeCell
-    Starts.startsFrom Starts.startsOf Starts.listed Exploration.exploreFrom Exploration.mostMoved Exploration.biasFor Exploration.explored
-    Check.firstAt Check.biasOf Check.exploredIn Check.flowRefusing Check.routineRefusing Check.routinesFrom Check.swept Check.codeChecked
-    Check.checked
+    Routine.jumpNumber Routine.depthNumber Routine.countFrom Measuring.callUse Measuring.greatestUse Cells.targetCell Cells.storeCell
+    Cells.beginning Cells.callee Cells.calleeCell Starts.startsFrom Starts.startsOf Starts.listed Exploration.exploreFrom
+    Exploration.mostMoved Exploration.biasFor Exploration.explored Check.firstAt Check.biasOf Check.exploredIn Check.flowRefusing
+    Check.routineRefusing Check.routinesFrom Check.swept Check.codeChecked Check.checked
     Reading.readByte Computing.computed Step.spTrap Step.pcTrap Step.moveTrap Step.storeTrap Step.callTrap Step.effectTrap Step.pcAfter
     Step.memoryAfter Step.made Step.decodedStep Step.stepValid Step.stepRefusal Step.stepped
 all-hold = refl
