@@ -5,10 +5,19 @@
  * aligned for its type, and leads to as many cells as its length, or its array type, says; and no cell that a function writes
  * lies in another of its arguments.
  *
- * Numbers are those of document 01; addresses are 16 bits, PC has 24. Limits are four addresses, ends included.
+ * Numbers are those of document 01; addresses are 16 bits, PC has 24. Limits are four addresses, ends included. The cell of PC has
+ * 32 bits and is read whole: a value above FFFFFF is in no code, so a step that is not refused traps 22 there (21 where SP is out
+ * of its range too) and leaves the cell as it was. No step that is made leaves PC above 01007F.
  *
- * The library keeps nothing between calls. gate_check and gate_start take 66 KiB of the caller's stack (67,111 bytes at most were
- * measured on x86-64), nearly all of it for a few numbers about each code byte; no other function takes 4 KiB. */
+ * Every function is re-entrant: the library keeps nothing between calls and writes no cell but those of its arguments and the
+ * caller's stack. Calls may go on at the same time, in threads or in an interrupt, if no cell that one of them writes is an
+ * argument of another; an image, which is only read, may be shared.
+ *
+ * gate_check and gate_start take 82 KiB and some of the caller's stack, whatever the image (83,992 bytes at most were measured): a
+ * check's arrays, of a few numbers about each code byte, have 81,920 bytes. No other function takes 4 KiB (3,768 bytes measured).
+ *
+ * The library is for x86-64 with the System V calling convention. A slice is passed as two arguments, the address of its first cell
+ * and its length, a number of cells and not of bytes; an array of fixed size is passed as its address alone. */
 #ifndef GATE_H
 #define GATE_H
 
@@ -79,15 +88,23 @@ uint8_t gate_start(const uint8_t *image, size_t image_length,
                    uint16_t report[GATE_REPORT]);
 
 /* Makes one step. The answer is 0 (made), GATE_FINISHED, a trap from 21 to 25, or a refusal (17, 1 to 4). Each register is read
- * by its low 8 bits (A, CC), 16 bits (X, Y, SP) or 32 bits (PC). Unless the step is made, registers come back as they were read,
- * and memory is as it was. */
+ * by its low 8 bits (A, CC), 16 bits (X, Y, SP) or 32 bits (PC), whatever the answer.
+ *   0: registers and memory are those after the instruction, and PC may now be 0.
+ *   GATE_FINISHED, a trap or a refusal: registers come back as they were read, and memory is as it was. */
 uint8_t gate_step(const uint8_t *image, size_t image_length,
                   uint16_t grant_low, uint16_t grant_high, uint16_t stack_low, uint16_t stack_high,
                   uint8_t *memory, size_t memory_length,
                   uint32_t registers[GATE_REGISTERS]);
 
 /* Makes steps until the routine finishes, traps or budget steps are made. The answer is GATE_FINISHED, GATE_SPENT, a trap, or a
- * refusal (17, 1 to 4). steps: the number of steps made, the trapping one not counted; 0 where refused. */
+ * refusal (17, 1 to 4). steps: the number of steps made, the trapping one not counted; 0 where refused. Registers are read as in
+ * gate_step.
+ *   GATE_FINISHED: registers and memory are those after the last step made, and PC is 0.
+ *   GATE_SPENT: the same, with PC not 0 and steps equal to budget. A call with these registers and this memory goes on.
+ *   a trap: the same, from before the trapping step, which changed nothing. PC is where it stands.
+ *   a refusal: registers come back as they were read, and memory is as it was.
+ * Where no step was made, "after the last step made" is as they were read. Budget 0 makes none: finished where PC is 0, else
+ * spent. */
 uint8_t gate_run(const uint8_t *image, size_t image_length,
                  uint16_t grant_low, uint16_t grant_high, uint16_t stack_low, uint16_t stack_high,
                  uint8_t *memory, size_t memory_length,

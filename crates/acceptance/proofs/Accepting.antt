@@ -9,8 +9,7 @@ use Rattle.image.specs.declared.Limits.{Limits}
 use Rattle.image.specs.Image.{sizeOf}
 use Rattle.image.specs.Rules.{LimitsRules, ImageRules}
 use Rattle.image.proofs.Validity.{rules-valid}
-use Rattle.rules.specs.Depth.{reportedNeed}
-use Rattle.rules.specs.Rules.{Rules, StartCount}
+use Rattle.rules.specs.Rules.{reportedNeed, Rules, StartCount}
 use Rattle.rules.specs.Before.{RulesBefore}
 use Rattle.rules.specs.Refusal.{Refusal}
 use Rattle.rules.specs.Acceptance.{Acceptable, AcceptedMarks, PastCode}

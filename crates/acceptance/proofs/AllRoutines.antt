@@ -13,9 +13,9 @@ use Rattle.image.specs.Image.{countOf, sizeOf, startOf}
 use Rattle.image.specs.Rules.{ImageRules}
 use Rattle.image.proofs.Layouts.{begins-before-end}
 use Rattle.image.proofs.Measuring.{start-zero, start-next, end-before}
-use Rattle.rules.specs.Code.{Start}
+use Rattle.code.specs.Code.{Start}
 use Rattle.rules.specs.Rules.{RoutineRules, Use, Greatest, countBelow}
-use Rattle.rules.proofs.Starts.{start-high}
+use Rattle.code.proofs.Starts.{start-high}
 use Rattle.rules.proofs.Mapping.{routine-map, greatest-map}
 use Rattle.acceptance.specs.Passed.{depthIn, needIn, RoutinePassed, RoutinesPassed}
 

@@ -1,6 +1,7 @@
 -- What the cell of a call says of its callee.
 use Prim.Native.Nat.{ℕ, zero, suc, _+_, _-_, _<_, _≤_}
-use mathlib.Core.Path.{_≡_, refl}
+use mathlib.Core.Path.{_≡_, refl, sym, _∙_}
+use mathlib.Core.Option.{Option, none, some, Option·none-ne-some}
 use mathlib.Core.Logic.{by-cases}
 use mathlib.Core.List.{List}
 use native.Mathlib.Decide.{ℕ-discrete}
@@ -8,19 +9,13 @@ use native.Mathlib.Omega.{arith}
 use lib.Dec.{eqb, ltb}
 use borrow.Author.Tests.{eqb-true, eqb-false, ltb-true, ltb-false, le-ltb}
 use Rattle.numbers.proofs.Checking.{by-test}
-use Rattle.stm8.specs.Effects.{effect}
+use Rattle.stm8.specs.Effects.{callTarget, effect}
 use Rattle.stm8.specs.declared.Flow.{Flow}
-use Rattle.stm8.specs.declared.Flow.the-variants.{Next, Branch, Jump, Call, CallRelative, Return}
 use Rattle.image.specs.declared.Limits.{Limits}
 use Rattle.image.specs.Image.{baseOf, startOf}
-use Rattle.rules.specs.Code.{Calls, absolute, near, Callee}
+use Rattle.rules.specs.Paths.{Callee}
 use Rattle.control_flow.specs.Routine as cells
-use Rattle.acceptance.specs.Cells.{beginning, callee, calleeCell, callCell, Stored}
-
--- a call has one target
-pub one-call : {next a b : ℕ} {flow : Flow} → Calls next flow a → Calls next flow b → a ≡ b
-one-call absolute absolute = refl
-one-call near near = refl
+use Rattle.acceptance.specs.Cells.{beginning, callee, calleeCell, cellOf, callCell, Stored}
 
 -- the search for a routine that begins at an offset
 module _ (image : List ℕ) (offset : ℕ) where
@@ -60,25 +55,25 @@ module _ (image : List ℕ) (r : ℕ) where
 
   -- there is no call, it goes to an earlier routine, or it goes to none
   pub data CallCell (next : ℕ) (flow : Flow) : ℕ → Type 0 where
-    none : ((address : ℕ) → Calls (baseOf image + next) flow address → ⊥) → CallCell next flow 0
-    calls : {address k : ℕ} → Calls (baseOf image + next) flow address → Callee image r address k → CallCell next flow (k + 1)
-    nowhere : {address : ℕ} → Calls (baseOf image + next) flow address → ((k : ℕ) → Callee image r address k → ⊥) →
+    absent : ((address : ℕ) → callTarget (baseOf image + next) flow ≡ some address → ⊥) → CallCell next flow 0
+    calls : {address k : ℕ} → callTarget (baseOf image + next) flow ≡ some address → Callee image r address k → CallCell next flow (k + 1)
+    nowhere : {address : ℕ} → callTarget (baseOf image + next) flow ≡ some address → ((k : ℕ) → Callee image r address k → ⊥) →
         CallCell next flow 255
 
-  calling : {next address : ℕ} {flow : Flow} → Calls (baseOf image + next) flow address → CallCell next flow (calleeCell image r address)
+  calling : {next address : ℕ} {flow : Flow} → callTarget (baseOf image + next) flow ≡ some address → CallCell next flow (calleeCell image r address)
   unfolding calleeCell
   calling {next} {address} {flow} c =
       by-test (CallCell next flow) (ltb (callee image r address) r)
       (λ t. calls c (callee-found address (ltb-true _ _ t)))
       (λ t. nowhere c (λ k e. omega (arith, ltb-false (callee image r address) r t, callee-earlier address k e)))
 
+  callee-cells : (next : ℕ) (flow : Flow) (target : Option ℕ) → callTarget (baseOf image + next) flow ≡ target →
+      CallCell next flow (cellOf (calleeCell image r) target)
+  callee-cells next flow none e = absent (λ a c. Option·none-ne-some a (sym e ∙ c))
+  callee-cells next flow (some address) e = calling e
+
   pub call-cell : (next : ℕ) (flow : Flow) → CallCell next flow (callCell image r next flow)
-  call-cell next Next = none (λ a. elim [ ])
-  call-cell next (Branch n) = none (λ a. elim [ ])
-  call-cell next (Jump n) = none (λ a. elim [ ])
-  call-cell next (Call a) = calling absolute
-  call-cell next (CallRelative n) = calling near
-  call-cell next Return = none (λ a. elim [ ])
+  call-cell next flow = callee-cells next flow (callTarget (baseOf image + next) flow) refl
 
 pub call-stored : {image : List ℕ} {limits : Limits} {r o : ℕ} {x : cells.Routine} (c : Stored image limits r x o) →
     CallCell image r (o + c .size) (effect (c .instruction) .flow) (x .calls o)

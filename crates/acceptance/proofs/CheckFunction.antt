@@ -18,13 +18,13 @@ use Rattle.image.specs.Validation.{validated}
 use Rattle.image.proofs.Validity.{valid-rules}
 use Rattle.image.proofs.Layouts.{begins-before-end, size-is}
 use Rattle.image.proofs.Measuring.{end-inside}
-use Rattle.rules.specs.Depth.{reportedNeed}
+use Rattle.rules.specs.Rules.{reportedNeed}
 use Rattle.rules.specs.Refusal.{RoutineRefusal}
 use Rattle.rules.specs.Outcome.{Outcome, invalid, few}
 use Rattle.rules.specs.declared.Verdict.{Verdict}
 use Rattle.rules.specs.declared.Verdict.the-variants.{Accepted}
 use Rattle.acceptance.specs.Passed.{needIn, RoutineChecked, RoutinesPassed}
-use Rattle.acceptance.specs.Starts.{startsOf}
+use Rattle.code.specs.Instructions.{startsOf}
 use Rattle.acceptance.specs.Check.{Refusing, nowhere, firstAt, flowRefusing, routineRefusing, Sweeping, passedBy, routinesFrom, swept, routineNeed}
 use Rattle.acceptance.specs.Check.{refusedCode, codeChecked, validatedChecked, checked}
 use Rattle.acceptance.proofs.Decoding.{codeCheck, code-lowest, filled}
@@ -38,10 +38,10 @@ abbrev Passed : List ℕ → Limits → ℕ → Sweeping → Type 0
 Passed image limits r s = RoutinesPassed image limits r (s .needs) (s .marks) (s .count)
 
 -- all routines pass, or one is refused and those before it pass
-data Swept (image : List ℕ) (limits : Limits) (s : Sweeping) : Type 0 where
-  all : s .refusal .number ≡ 0 → Passed image limits (countOf image) s → Swept image limits s
+data SweepEnd (image : List ℕ) (limits : Limits) (s : Sweeping) : Type 0 where
+  all : s .refusal .number ≡ 0 → Passed image limits (countOf image) s → SweepEnd image limits s
   stopped : (k : ℕ) → k < countOf image → (t : Sweeping) → Passed image limits k t → (s .refusal .number ≡ 0 → ⊥) →
-      RoutineRefusal image limits k (s .refusal .number) (s .refusal .at) → Swept image limits s
+      RoutineRefusal image limits k (s .refusal .number) (s .refusal .at) → SweepEnd image limits s
 
 module _ {image : List ℕ} (layout : ImageRules image) (limits : Limits) where
   module _ (r : ℕ) (inside : r < countOf image) (s : Sweeping) (so-far : Passed image limits r s) where
@@ -83,18 +83,18 @@ module _ {image : List ℕ} (layout : ImageRules image) (limits : Limits) where
     passes none = one-more layout inside so-far (checked-passed routine-checked none)
 
   routines-swept : (n r : ℕ) → r + n ≡ countOf image → (s : Sweeping) → s .refusal ≡ nowhere → Passed image limits r s →
-      Swept image limits (routinesFrom n image limits r s)
+      SweepEnd image limits (routinesFrom n image limits r s)
   unfolding routinesFrom
   routines-swept zero r end s none so-far =
       let here : r ≡ countOf image = omega arith in
       all (ap (λ (q : Refusing). q .number) none) (rw here at so-far)
   routines-swept (suc n) r end s none so-far =
       let inside : r < countOf image = omega arith in
-      by-test (Swept image limits) (eqb (routineRefusing image limits r .number) 0)
+      by-test (SweepEnd image limits) (eqb (routineRefusing image limits r .number) 0)
       (λ t. routines-swept n (r + 1) (omega arith) (passedBy image limits r s) refl (passes r inside s so-far (eqb-true _ 0 t)))
       (λ t. stopped r inside s so-far (eqb-false _ 0 t) (fails r inside s so-far (eqb-false _ 0 t)))
 
-  code-swept : Swept image limits (swept image limits)
+  code-swept : SweepEnd image limits (swept image limits)
   unfolding swept
   code-swept = routines-swept (countOf image) 0 (omega arith) _ refl (none-yet image limits)
 
@@ -118,7 +118,7 @@ module _ (image : List ℕ) (limits : Limits) {layout : Layout} (valid : validat
       (λ t. no-room-outcome valid before enough so-far refl refl (ltb-true _ _ t))
       (λ t. accepted-outcome valid before enough so-far refl refl (ltb-false _ _ t))
 
-  code-given : Swept image limits (swept image limits) → Given image limits before (codeChecked image limits)
+  code-given : SweepEnd image limits (swept image limits) → Given image limits before (codeChecked image limits)
   unfolding codeChecked Given
   code-given (all none so-far) = rw (eq-eqb (swept image limits .refusal .number) 0 none) (room-given (swept image limits) so-far)
   code-given (stopped k inside t so-far not refusal) =

@@ -4,9 +4,9 @@ use mathlib.Core.Path.{_≡_}
 use mathlib.Core.List.{List}
 use native.Mathlib.Omega.{arith}
 use Rattle.image.specs.declared.Limits.{Limits}
-use Rattle.rules.specs.Code.{Start}
+use Rattle.code.specs.Code.{Start}
 use Rattle.rules.specs.Refusal.{CodeFault, outside, cut, off, codes, Lowest}
-use Rattle.rules.proofs.Starts.{same-found}
+use Rattle.code.proofs.Starts.{same-found}
 use Rattle.rules.proofs.RefusalNumbers.{fault-at}
 use Rattle.control_flow.specs.Routine as cells
 use Rattle.acceptance.specs.Cells.{Stored}

@@ -14,15 +14,16 @@ use Rattle.stm8.specs.declared.Decoded.{Decoded}
 use Rattle.stm8.specs.declared.Decoded.the-variants.{Found, Outside, Truncated}
 use Rattle.image.specs.declared.Limits.{Limits}
 use Rattle.image.specs.Image.{startOf, endOf}
-use Rattle.rules.specs.Depth.{falls}
-use Rattle.rules.specs.Code.{instructionAt, Start}
+use Rattle.code.specs.Depth.{falls}
+use Rattle.code.specs.Code.{instructionAt, Start}
 use Rattle.rules.specs.Refusal.{CodeFault, outside, cut, off, Lowest}
-use Rattle.rules.proofs.Starts.{same-found, start-low, start-high}
+use Rattle.code.proofs.Starts.{same-found, start-low, start-high}
 use Rattle.acceptance.specs.Cells.{Stored, Filled}
-use Rattle.acceptance.specs.Starts.{startsOf, codeNumber, cellAt, cellsOf}
+use Rattle.acceptance.specs.Starts.{codeNumber, cellAt, cellsOf}
 use Rattle.acceptance.specs.Check.{firstAt}
 use Rattle.acceptance.proofs.Offsets.{listed-in, in-listed, first-none, first-found}
-use Rattle.acceptance.proofs.StartList.{starts-rise, listed-start, start-listed}
+use Rattle.code.specs.Instructions.{startsOf}
+use Rattle.code.proofs.StartList.{starts-rise, listed-start, start-listed}
 
 -- a start at which 8, 9 and 15 pass
 pub record Decodes (image : List ℕ) (r o : ℕ) : Type 0 where

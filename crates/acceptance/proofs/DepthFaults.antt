@@ -7,9 +7,10 @@ use Rattle.stm8.specs.declared.Instruction.{Instruction}
 use Rattle.image.specs.declared.Limits.{Limits}
 use Rattle.image.specs.Image.{baseOf, countOf}
 use Rattle.image.specs.Rules.{ImageRules}
-use Rattle.rules.specs.Code.{Start, Path}
+use Rattle.code.specs.Code.{Start}
+use Rattle.rules.specs.Paths.{Path}
 use Rattle.rules.specs.Refusal.{Arrival, DepthFault, range, store, call, depths}
-use Rattle.rules.proofs.Starts.{same-found}
+use Rattle.code.proofs.Starts.{same-found}
 use Rattle.rules.proofs.RefusalNumbers.{fault-at}
 use Rattle.control_flow.specs.Routine as cells
 use Rattle.control_flow.specs.Outcome.{AllReached, Held, Passes}

@@ -1,17 +1,19 @@
 -- Which of 11, 12 and 14 an instruction gets by its cells, at the depth of a path.
 use Prim.Native.Nat.{ℕ, _+_, _-_, _<_, _≤_}
 use mathlib.Core.Path.{_≡_}
+use mathlib.Core.Option.{some}
 use mathlib.Core.Logic.{_↔_}
 use mathlib.Core.List.{List}
 use native.Mathlib.Omega.{arith}
-use Rattle.stm8.specs.Effects.{effect}
+use Rattle.stm8.specs.Effects.{callTarget, effect}
+use Rattle.stm8.proofs.EffectLaws.{one-target}
 use Rattle.stm8.specs.declared.Instruction.{Instruction}
 use Rattle.stm8.specs.declared.Effect.{Effect}
 use Rattle.stm8.specs.declared.Flow.the-variants.{Return}
 use Rattle.image.specs.declared.Limits.{Limits}
 use Rattle.image.specs.Image.{baseOf, countOf, startOf, endOf}
 use Rattle.image.specs.Rules.{ImageRules}
-use Rattle.rules.specs.Code.{Calls, Callee}
+use Rattle.rules.specs.Paths.{Callee}
 use Rattle.rules.specs.Rules.{StoreRules}
 use Rattle.rules.specs.Refusal.{InRange, Arrival, DepthFault, range, store, call}
 use Rattle.control_flow.specs.Routine as cells
@@ -27,14 +29,14 @@ module _ (image : List ℕ) (limits : Limits) (r next : ℕ) (e : Effect) (pushe
   pub record Allowed : Type 0 where
     pub ranges : InRange e pushes pops
     pub stores : (depth : ℕ) → depth + pops ≡ pushes → StoreRules limits depth (e .place)
-    pub calls : {address : ℕ} → Calls next (e .flow) address → (callee : ℕ) × Callee image r address callee
+    pub calls : {address : ℕ} → callTarget next (e .flow) ≡ some address → (callee : ℕ) × Callee image r address callee
 
   -- the number that it gets
   pub data Tested : ℕ → Type 0 where
     ranging : (InRange e pushes pops → ⊥) → Tested 11
     storing : InRange e pushes pops → (depth : ℕ) → depth + pops ≡ pushes → (StoreRules limits depth (e .place) → ⊥) → Tested 12
     calling : {address : ℕ} → InRange e pushes pops → (depth : ℕ) → depth + pops ≡ pushes → StoreRules limits depth (e .place) →
-        Calls next (e .flow) address → ((callee : ℕ) → Callee image r address callee → ⊥) → Tested 14
+        callTarget next (e .flow) ≡ some address → ((callee : ℕ) → Callee image r address callee → ⊥) → Tested 14
     passing : Allowed → Tested 0
 
 -- what its cells say, where the depth that is held is that of the path
@@ -76,9 +78,9 @@ module _ {image : List ℕ} {limits : Limits} {r o : ℕ} {x : cells.Routine} (l
   CallCell = calls.CallCell image r (o + c .size) (effect (c .instruction) .flow)
 
   callees : {cell : ℕ} → CallCell cell → cell ≤ 32 →
-      {address : ℕ} → Calls (baseOf image + (o + c .size)) (effect (c .instruction) .flow) address → (callee : ℕ) × Callee image r address callee
-  callees (calls.none absent) small d = absurd (absent _ d)
-  callees (calls.calls {k = k} d to) small e = (k, rw (calls.one-call e d) to)
+      {address : ℕ} → callTarget (baseOf image + (o + c .size)) (effect (c .instruction) .flow) ≡ some address → (callee : ℕ) × Callee image r address callee
+  callees (calls.absent no-call) small d = absurd (no-call _ d)
+  callees (calls.calls {k = k} d to) small e = (k, rw (one-target e d) to)
   callees (calls.nowhere d none) small e = absurd (omega arith)
 
   abbrev TestedHere : ℕ → Type 0
@@ -86,7 +88,7 @@ module _ {image : List ℕ} {limits : Limits} {r o : ℕ} {x : cells.Routine} (l
 
   lost-call : {cell : ℕ} → CallCell cell → 32 < cell → InRange (effect (c .instruction)) pushes pops → (depth : ℕ) → depth + pops ≡ pushes →
       StoreRules limits depth (effect (c .instruction) .place) → TestedHere 14
-  lost-call (calls.none absent) l h depth e s = absurd (omega arith)
+  lost-call (calls.absent no-call) l h depth e s = absurd (omega arith)
   lost-call (calls.calls d to) l h depth e s = absurd (omega (arith, to .earlier, layout .count .1))
   lost-call (calls.nowhere d none) l h depth e s = calling h depth e s d none
 
@@ -115,7 +117,7 @@ allows (passing a) z = a
 
 pub fault : {image : List ℕ} {limits : Limits} {r o n pushes pops number : ℕ} {i : Instruction} → Arrival image r o n i pushes pops →
     Tested image limits r (baseOf image + (o + n)) (effect i) pushes pops number → 1 ≤ number → DepthFault image limits r o number
-fault a (ranging out) some = range a out
-fault a (storing h d e out) some = store a h d e out
-fault a (calling h d e s c none) some = call a h d e s c none
-fault a (passing p) some = absurd (omega arith)
+fault a (ranging out) positive = range a out
+fault a (storing h d e out) positive = store a h d e out
+fault a (calling h d e s c none) positive = call a h d e s c none
+fault a (passing p) positive = absurd (omega arith)

@@ -7,6 +7,7 @@ use lib.ListN.{length}
 use Rattle.image.specs.declared.Limits.{Limits}
 use Rattle.image.specs.Image.{sizeOf}
 use Rattle.rules.specs.Acceptance.{RefusedMarks, RefusedAs, PastCode}
+use Rattle.rules.specs.Outcome.{VerdictNumbered}
 use Rattle.rules.specs.declared.Verdict.the-variants.{Refused}
 use Rattle.rules.proofs.OneOutcome as Outcomes
 use Rattle.rules.proofs.EveryOutcome as Outcome
@@ -18,8 +19,11 @@ module _ (image : List ℕ) (limits : Limits) (marks : List ℕ) where
       RefusedMarks image marks (checked image limits marks .1) number
   refused-marks e = Outcome.refused-marks (rw e at (checked-outcome image limits marks))
 
-  pub refused-as : {number offset : ℕ} → checked image limits marks .0 ≡ Refused number offset → RefusedAs number offset
+  pub refused-as : {number offset : ℕ} → checked image limits marks .0 ≡ Refused number offset → RefusedAs image number offset
   refused-as e = Outcome.refused-as (rw e at (checked-outcome image limits marks))
+
+  pub verdict-numbered : VerdictNumbered 16 (checked image limits marks .0)
+  verdict-numbered = Outcome.verdict-numbered (checked-outcome image limits marks)
 
   pub past-code : PastCode image marks (checked image limits marks .1)
   past-code = Outcome.past-code (checked-outcome image limits marks)

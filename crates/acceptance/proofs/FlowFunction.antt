@@ -15,7 +15,7 @@ use Rattle.image.specs.declared.Limits.{Limits}
 use Rattle.image.specs.Image.{countOf, startOf, endOf}
 use Rattle.image.specs.Rules.{ImageRules}
 use Rattle.image.proofs.Layouts.{begins-before-end}
-use Rattle.rules.specs.Code.{begins}
+use Rattle.code.specs.Code.{begins}
 use Rattle.control_flow.specs.Graph.{cells, Reached}
 use Rattle.control_flow.specs.Routine.{Routine, Start, WellFormed, jumpCheck, depthCheck, countFrom}
 use Rattle.control_flow.specs.Measuring.{useAt}
@@ -27,11 +27,12 @@ use Rattle.control_flow.proofs.Using.{use-most, use-attained}
 use Rattle.control_flow.proofs.Paths.{reached-start}
 use Rattle.control_flow.proofs.Outcomes.{explorable, unreached-at, disagreeing-at, tested-at}
 use Rattle.acceptance.specs.Cells.{Filled}
-use Rattle.acceptance.specs.Starts.{startsOf, cellsOf}
+use Rattle.acceptance.specs.Starts.{cellsOf}
 use Rattle.acceptance.specs.Exploration.{mostMoved, biasFor}
 use Rattle.acceptance.specs.Check.{Refusing, nowhere, firstAt, orElse, flowRefusing, biasOf, exploredIn, reachNumber, markAll}
-use Rattle.acceptance.proofs.Offsets.{In, head, tail, first-none, first-found}
-use Rattle.acceptance.proofs.StartList.{in-none, starts-rise, listed-start, start-listed}
+use Rattle.code.specs.Instructions.{In, head, tail, startsOf}
+use Rattle.code.proofs.StartList.{in-none, starts-rise, listed-start, start-listed}
+use Rattle.acceptance.proofs.Offsets.{first-none, first-found}
 use Rattle.acceptance.proofs.Graphs.{decoded}
 use Rattle.acceptance.proofs.Exploring.{explored-all}
 use Rattle.acceptance.proofs.Measuring.{greatest, greatest-bounds, greatest-in, marks-size, mark-at, mark-or}

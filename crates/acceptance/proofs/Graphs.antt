@@ -11,9 +11,10 @@ use Rattle.image.specs.declared.Limits.{Limits}
 use Rattle.image.specs.Image.{countOf}
 use Rattle.image.specs.Rules.{ImageRules}
 use Rattle.image.proofs.Measuring.{end-inside}
-use Rattle.rules.specs.Depth.{falls}
-use Rattle.rules.specs.Code.{Start, begins, follows, Goes, falling, jumping, Reached, entered, followed, Path, entry, onward, Disagree}
-use Rattle.rules.proofs.Starts.{same-found}
+use Rattle.code.specs.Depth.{falls}
+use Rattle.code.specs.Code.{Start, begins, follows}
+use Rattle.rules.specs.Paths.{Goes, falling, jumping, Reached, entered, followed, Path, entry, onward, Disagree}
+use Rattle.code.proofs.Starts.{same-found}
 use Rattle.control_flow.specs.Graph as graph
 use Rattle.control_flow.specs.Routine as cells
 use Rattle.acceptance.specs.Cells.{Filled}

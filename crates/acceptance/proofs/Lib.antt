@@ -1,5 +1,4 @@
 pub mod Offsets
-pub mod StartList
 pub mod Decoding
 pub mod Exploring
 pub mod Measuring

@@ -8,7 +8,7 @@ use native.Mathlib.Omega.{arith}
 use lib.ListN.{length, getD, length-set}
 use lib.Seq.{getD-set-same, getD-set-other}
 use Rattle.acceptance.specs.Check.{markAll}
-use Rattle.acceptance.proofs.Offsets.{In, head, tail}
+use Rattle.code.specs.Instructions.{In, head, tail}
 
 -- the greatest value of a function over a list, 0 where the list is empty
 abbrev pub greatest : (ℕ → ℕ) → List ℕ → ℕ
@@ -45,7 +45,7 @@ module _ (bias : ℕ) (depths marks : List ℕ) where
   pub mark-at : {o : ℕ} {l : List ℕ} → ((k : ℕ) → In k l → k < length marks) → In o l →
       getD (markAll bias depths marks l) o 0 ≡ getD depths o 0 - bias + 1
   mark-at {o} inside (head {rest}) = mark-front o o rest (inside o head) (inr refl)
-  mark-at {o} inside (tail {s} {rest} i) = mark-front s o rest (inside s head) (inl (mark-at (λ k j. inside k (tail j)) i))
+  mark-at {o} inside (tail {y = s} {rest} i) = mark-front s o rest (inside s head) (inl (mark-at (λ k j. inside k (tail j)) i))
 
   pub mark-or : (o : ℕ) (l : List ℕ) → In o l ⊎ (getD (markAll bias depths marks l) o 0 ≡ getD marks o 0)
   mark-or o [] = inr refl

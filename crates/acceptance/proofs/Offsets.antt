@@ -9,12 +9,10 @@ use native.Mathlib.Omega.{arith}
 use lib.Dec.{eqb}
 use borrow.Author.Tests.{eq-eqb, ne-eqb}
 use Rattle.numbers.proofs.Checking.{by-test}
+use Rattle.code.specs.Instructions.{In, head, tail}
+use Rattle.code.proofs.StartList.{Rising, none, next}
 use Rattle.acceptance.specs.Starts.{listed}
 use Rattle.acceptance.specs.Check.{Refusing, firstAt}
-
-pub data In (o : ℕ) : List ℕ → Type 0 where
-  head : {rest : List ℕ} → In o (o ∷ rest)
-  tail : {s : ℕ} {rest : List ℕ} → In o rest → In o (s ∷ rest)
 
 pub listed-in : (o : ℕ) (l : List ℕ) → listed o l ≡ true → In o l
 unfolding listed
@@ -25,16 +23,7 @@ listed-in o (s ∷ rest) e =
 pub in-listed : {o : ℕ} {l : List ℕ} → In o l → listed o l ≡ true
 unfolding listed
 in-listed {o} head = rw (eq-eqb o o refl)
-in-listed {o} (tail {s} {rest} i) = by-test (λ t. t ≡ true) (eqb o s) (λ here. refl) (λ away. in-listed i)
-
--- each is at least b and above the one before it
-pub data Rising : ℕ → List ℕ → Type 0 where
-  none : {b : ℕ} → Rising b []
-  next : {b o : ℕ} {rest : List ℕ} → b ≤ o → Rising (suc o) rest → Rising b (o ∷ rest)
-
-pub rising-from : {a b : ℕ} {l : List ℕ} → a ≤ b → Rising b l → Rising a l
-rising-from h none = none
-rising-from {a} h (next {o = o} low rest) = let l : a ≤ o = omega arith in next l rest
+in-listed {o} (tail {y = s} {rest} i) = by-test (λ t. t ≡ true) (eqb o s) (λ here. refl) (λ away. in-listed i)
 
 pub rising-above : {b o : ℕ} {l : List ℕ} → Rising b l → In o l → b ≤ o
 rising-above (next low rest) head = low

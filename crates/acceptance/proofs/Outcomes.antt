@@ -13,12 +13,12 @@ use Rattle.image.specs.Validation.{validated}
 use Rattle.image.proofs.Validity.{valid-rules}
 use Rattle.image.proofs.Layouts.{begins-before-end}
 use Rattle.image.proofs.Measuring.{end-inside}
-use Rattle.rules.specs.Depth.{reportedNeed}
+use Rattle.rules.specs.Rules.{reportedNeed}
 use Rattle.rules.specs.Refusal.{RoutineRefusal, inRoutine, noRoom}
 use Rattle.rules.specs.Acceptance.{Acceptable, AcceptedMarks}
 use Rattle.rules.specs.Outcome.{Outcome, refused, accepted}
 use Rattle.rules.specs.declared.Verdict.the-variants.{Accepted, Refused}
-use Rattle.rules.proofs.Starts.{start-high}
+use Rattle.code.proofs.Starts.{start-high}
 use Rattle.rules.proofs.Passing.{rules-pass}
 use Rattle.rules.proofs.EveryOutcome.{front-mark, front-past}
 use Rattle.acceptance.specs.Passed.{depthIn, needIn, RoutinesPassed}

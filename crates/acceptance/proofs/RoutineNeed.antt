@@ -1,16 +1,19 @@
 -- What the instructions of a routine use by its cells is what they use by the rules, so the greatest of it is the routine's need.
 use Prim.Native.Nat.{ℕ, _+_, _<_, _≤_}
 use mathlib.Core.Path.{_≡_}
+use mathlib.Core.Option.{some}
 use mathlib.Core.List.{List}
 use native.Mathlib.Omega.{arith}
-use Rattle.stm8.specs.Effects.{effect}
+use Rattle.stm8.specs.Effects.{callTarget, effect}
+use Rattle.stm8.proofs.EffectLaws.{one-target}
 use Rattle.image.specs.declared.Limits.{Limits}
 use Rattle.image.specs.Image.{baseOf, countOf}
 use Rattle.image.specs.Rules.{ImageRules}
-use Rattle.rules.specs.Depth.{after}
-use Rattle.rules.specs.Code.{Start, Calls, Callee}
+use Rattle.code.specs.Depth.{after}
+use Rattle.code.specs.Code.{Start}
+use Rattle.rules.specs.Paths.{Callee}
 use Rattle.rules.specs.Rules.{InstructionRules, StartAt, RoutineRules, InstructionUse, before, behind, calling, Use, Greatest}
-use Rattle.rules.proofs.Starts.{same-found}
+use Rattle.code.proofs.Starts.{same-found}
 use Rattle.rules.proofs.Callees.{one-callee}
 use Rattle.rules.proofs.Unique.{rules-found}
 use Rattle.control_flow.specs.Routine as cells
@@ -30,7 +33,7 @@ module _ {image : List ℕ} {limits : Limits} {r o : ℕ} {x : cells.Routine} (l
   CallCell = calls.CallCell image r (o + c .size) (effect (c .instruction) .flow)
 
   cell-call : {cell : ℕ} → CallCell cell → (k : ℕ) → cell ≡ k + 1 → Used (depth o + 2 + needIn needs k)
-  cell-call (calls.none absent) k e = absurd (omega arith)
+  cell-call (calls.absent no-call) k e = absurd (omega arith)
   cell-call (calls.calls {k = j} d to) k e = let same : k ≡ j = omega arith in rw same (calling d to)
   cell-call (calls.nowhere d none) k e = let to = rules .call d in absurd (none (to .0) (to .1))
 
@@ -42,11 +45,11 @@ module _ {image : List ℕ} {limits : Limits} {r o : ℕ} {x : cells.Routine} (l
       rw same behind
   uses-used {v} (cells.calling k e f) = let same : v ≡ depth o + 2 + needIn needs k = omega arith in rw same (cell-call (calls.call-stored c) k e)
 
-  call-cell : {cell address : ℕ} → CallCell cell → (k : ℕ) → Calls (baseOf image + (o + c .size)) (effect (c .instruction) .flow) address →
+  call-cell : {cell address : ℕ} → CallCell cell → (k : ℕ) → callTarget (baseOf image + (o + c .size)) (effect (c .instruction) .flow) ≡ some address →
       Callee image r address k → cell ≡ k + 1
-  call-cell (calls.none absent) k d to = absurd (absent _ d)
-  call-cell (calls.calls d′ to′) k d to = omega (arith, one-callee image layout (omega arith) to′ (rw (calls.one-call d d′) at to))
-  call-cell (calls.nowhere d′ none) k d to = absurd (none k (rw (calls.one-call d d′) at to))
+  call-cell (calls.absent no-call) k d to = absurd (no-call _ d)
+  call-cell (calls.calls d′ to′) k d to = omega (arith, one-callee image layout (omega arith) to′ (rw (one-target d d′) at to))
+  call-cell (calls.nowhere d′ none) k d to = absurd (none k (rw (one-target d d′) at to))
 
   used-uses : {v : ℕ} → Used v → cells.Uses x needs bias held o v
   unfolding after

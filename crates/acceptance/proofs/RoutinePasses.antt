@@ -13,7 +13,7 @@ use borrow.Author.Tests.{lt-ltb, le-ltb}
 use Rattle.image.specs.declared.Limits.{Limits}
 use Rattle.image.specs.Image.{startOf, endOf}
 use Rattle.image.proofs.Layouts.{begins-before-end}
-use Rattle.rules.specs.Code.{Start}
+use Rattle.code.specs.Code.{Start}
 use Rattle.rules.specs.Rules.{countBelow}
 use Rattle.rules.proofs.Counting.{count-same}
 use Rattle.control_flow.specs.Routine as cells

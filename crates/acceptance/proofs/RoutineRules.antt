@@ -8,8 +8,9 @@ use Rattle.stm8.specs.Effects.{effect}
 use Rattle.stm8.specs.declared.Instruction.{Instruction}
 use Rattle.image.specs.declared.Limits.{Limits}
 use Rattle.image.specs.Image.{baseOf}
-use Rattle.rules.specs.Depth.{after}
-use Rattle.rules.specs.Code.{Start, Goes, falling, jumping, Path, entry, onward}
+use Rattle.code.specs.Depth.{after}
+use Rattle.code.specs.Code.{Start}
+use Rattle.rules.specs.Paths.{Goes, falling, jumping, Path, entry, onward}
 use Rattle.rules.specs.Rules.{InstructionRules, StartAt, RoutineRules}
 use Rattle.rules.specs.Refusal.{Arrival}
 use Rattle.rules.proofs.Ranges.{range-rules}

@@ -11,10 +11,9 @@ use Rattle.stm8.specs.Effects.{bytesWide}
 use Rattle.stm8.specs.declared.Place.{Place}
 use Rattle.stm8.specs.declared.Place.the-variants.{Nowhere, Direct, OnStack, Pushed}
 use Rattle.stm8.specs.declared.Width.{Width}
-use Rattle.stm8.proofs.EffectLaws.{wide-some}
 use Rattle.image.specs.declared.Limits.{Limits}
 use Rattle.image.specs.Access.{granted}
-use Rattle.image.proofs.Granting.{granted-within, within-granted}
+use Rattle.image.proofs.Granting.{granted-exactly}
 use Rattle.rules.specs.Rules.{StoreRules}
 use Rattle.acceptance.specs.Cells.{storeCell}
 
@@ -23,8 +22,8 @@ module _ (limits : Limits) (depth : ℕ) (small : depth ≤ 255) where
   unfolding storeCell
   direct-cell address w =
       by-test (λ n. (n ≤ depth) ↔ StoreRules limits depth (Direct address w)) (granted limits address (bytesWide w))
-      (λ t. (λ h. granted-within limits address (bytesWide w) t, λ h. omega arith))
-      (λ t. (λ h. absurd (omega arith), λ h. absurd (false≢true (sym t ∙ within-granted limits address (bytesWide w) (wide-some w) h))))
+      (λ t. (λ h. granted-exactly limits address (bytesWide w) .0 t, λ h. omega arith))
+      (λ t. (λ h. absurd (omega arith), λ h. absurd (false≢true (sym t ∙ granted-exactly limits address (bytesWide w) .1 h))))
 
   pub store-cell : (place : Place) → (storeCell limits place ≤ depth) ↔ StoreRules limits depth place
   unfolding storeCell

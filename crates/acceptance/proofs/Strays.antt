@@ -1,6 +1,7 @@
 -- 13 and 10 by the cells are 13 and 10 of the code.
 use Prim.Native.Nat.{ℕ, _+_, _-_, _<_, _≤_}
 use mathlib.Core.Path.{_≡_}
+use mathlib.Core.Option.{some}
 use mathlib.Core.Logic.{⊎-elim}
 use mathlib.Core.Bool.{cond}
 use mathlib.Core.List.{List}
@@ -8,16 +9,16 @@ use native.Mathlib.Omega.{arith}
 use lib.Dec.{eqb}
 use borrow.Author.Tests.{eqb-true, le-ltb, ne-eqb}
 use Rattle.numbers.proofs.Checking.{by-test}
-use Rattle.stm8.specs.Effects.{effect}
+use Rattle.stm8.specs.Effects.{jumpTarget, effect}
+use Rattle.stm8.proofs.EffectLaws.{one-target}
 use Rattle.stm8.specs.declared.Instruction.{Instruction}
 use Rattle.stm8.specs.declared.Decoded.the-variants.{Found}
 use Rattle.stm8.specs.declared.Flow.{Flow}
 use Rattle.image.specs.declared.Limits.{Limits}
 use Rattle.image.specs.Image.{baseOf, startOf, endOf}
-use Rattle.rules.specs.Code.{instructionAt, Start, Jumps}
+use Rattle.code.specs.Code.{instructionAt, Start}
 use Rattle.rules.specs.Refusal.{JumpFault, leaves, inside, jumps}
-use Rattle.rules.proofs.Starts.{same-found}
-use Rattle.rules.proofs.OneNumber.{one-target}
+use Rattle.code.proofs.Starts.{same-found}
 use Rattle.rules.proofs.RefusalNumbers.{fault-at}
 use Rattle.control_flow.specs.Routine as cells
 use Rattle.control_flow.proofs.Numbers as numbers
@@ -39,17 +40,17 @@ module _ {image : List ℕ} {limits : Limits} {r : ℕ} {x : cells.Routine} (fil
   stray : {o n cell : ℕ} {i : Instruction} → Start image r o → instructionAt image r o ≡ Found i n →
       JumpCell (o + n) (effect i .flow) cell → 1 ≤ cells.jumpNumber (x .starts) cell → JumpFault image r o (cells.jumpNumber (x .starts) cell)
   unfolding cells.jumpNumber
-  stray s f (jump.none absent) = λ some. absurd (omega arith)
-  stray s f (jump.leaves j out) = λ some. leaves s f j out
+  stray s f (jump.absent no-jump) = λ positive. absurd (omega arith)
+  stray s f (jump.leaves j out) = λ positive. leaves s f j out
   stray {o} s f (jump.stays {to = to} j low high) =
       rw (stays-number (x .starts) to (omega (arith, filled .end)))
       (by-test (λ n. 1 ≤ n → JumpFault image r o n) (eqb (x .starts to) 0)
-      (λ t some. let none = eqb-true (x .starts to) 0 t in inside s f j low high (λ u. omega (arith, filled .starts to u .is)))
-      (λ t some. absurd (omega arith)))
+      (λ t positive. let none = eqb-true (x .starts to) 0 t in inside s f j low high (λ u. omega (arith, filled .starts to u .is)))
+      (λ t positive. absurd (omega arith)))
 
   lands : {next cell : ℕ} {flow : Flow} → JumpCell next flow cell → cells.jumpNumber (x .starts) cell ≡ 0 →
-      {address : ℕ} → Jumps (baseOf image + next) flow address → (to : ℕ) × (address ≡ baseOf image + to) × Start image r to
-  lands (jump.none absent) pass k = absurd (absent _ k)
+      {address : ℕ} → jumpTarget (baseOf image + next) flow ≡ some address → (to : ℕ) × (address ≡ baseOf image + to) × Start image r to
+  lands (jump.absent no-jump) pass k = absurd (no-jump _ k)
   lands (jump.leaves j out) pass k = absurd (omega (arith, numbers.jump-lands (x .starts) 65535 pass (omega arith) .0))
   lands (jump.stays {to = to} j low high) pass k =
       let back : to + 1 - 1 ≡ to = omega arith in
@@ -58,7 +59,7 @@ module _ {image : List ℕ} {limits : Limits} {r : ℕ} {x : cells.Routine} (fil
 
   -- a jump that passes lands on a start
   pub jump-lands : {o n : ℕ} {i : Instruction} → Start image r o → instructionAt image r o ≡ Found i n → cells.jumpCheck x o ≡ 0 →
-      {address : ℕ} → Jumps (baseOf image + (o + n)) (effect i .flow) address →
+      {address : ℕ} → jumpTarget (baseOf image + (o + n)) (effect i .flow) ≡ some address →
       (to : ℕ) × (address ≡ baseOf image + to) × Start image r to
   jump-lands {o} s f pass j =
       let same = same-found f (filled .cells o s .found) in

@@ -10,7 +10,7 @@ use borrow.Author.Tests.{ltb-true, lt-ltb}
 use Rattle.image.specs.declared.Limits.{Limits}
 use Rattle.image.specs.Image.{countOf, sizeOf}
 use Rattle.image.proofs.Measuring.{start-count}
-use Rattle.rules.specs.Code.{Start}
+use Rattle.code.specs.Code.{Start}
 use Rattle.rules.specs.Rules.{RoutineRules, NeedRules, StartCount}
 use Rattle.rules.specs.Acceptance.{AcceptedMarks}
 use Rattle.acceptance.specs.Passed.{depthIn, marked, needIn, RoutinesPassed}

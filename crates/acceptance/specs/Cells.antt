@@ -4,19 +4,19 @@ use Prim.Native.Nat.{ℕ, zero, suc, _+_, _-_, _<_}
 use mathlib.Core.Path.{_≡_}
 use mathlib.Core.Bool.{true, cond}
 use mathlib.Core.List.{List}
+use mathlib.Core.Option.{Option, none, some}
 use lib.Dec.{eqb, ltb}
-use Rattle.stm8.specs.Effects.{relative, bytesWide, effect}
+use Rattle.stm8.specs.Effects.{jumpTarget, callTarget, bytesWide, effect}
 use Rattle.stm8.specs.declared.Instruction.{Instruction}
 use Rattle.stm8.specs.declared.Decoded.the-variants.{Found}
 use Rattle.stm8.specs.declared.Place.{Place}
 use Rattle.stm8.specs.declared.Place.the-variants.{Nowhere, Direct, OnStack, Pushed}
 use Rattle.stm8.specs.declared.Flow.{Flow}
-use Rattle.stm8.specs.declared.Flow.the-variants.{Next, Branch, Jump, Call, CallRelative, Return}
 use Rattle.image.specs.declared.Limits.{Limits}
 use Rattle.image.specs.Image.{baseOf, startOf, endOf}
 use Rattle.image.specs.Access.{granted}
-use Rattle.rules.specs.Depth.{popped, pushed, falls}
-use Rattle.rules.specs.Code.{instructionAt, Start}
+use Rattle.code.specs.Depth.{popped, pushed, falls}
+use Rattle.code.specs.Code.{instructionAt, Start}
 use Rattle.control_flow.specs.Routine as cells
 
 -- 1 + the offset that control falls to, 0 where it does not fall
@@ -28,13 +28,12 @@ unfoldable pub targetCell : ℕ → ℕ → ℕ → ℕ → ℕ
 targetCell base start end address = cond (ltb address (base + start)) 65535 (cond (ltb address (base + end)) (address - base + 1) 65535)
 
 -- the same of a jump's target, 0 where there is no jump
+abbrev pub cellOf : (ℕ → ℕ) → Option ℕ → ℕ
+cellOf cell none = 0
+cellOf cell (some address) = cell address
+
 abbrev pub jumpCell : ℕ → ℕ → ℕ → ℕ → Flow → ℕ
-jumpCell base start end next Next = 0
-jumpCell base start end next (Branch n) = targetCell base start end (relative (base + next) n)
-jumpCell base start end next (Jump n) = targetCell base start end (relative (base + next) n)
-jumpCell base start end next (Call a) = 0
-jumpCell base start end next (CallRelative n) = 0
-jumpCell base start end next Return = 0
+jumpCell base start end next flow = cellOf (targetCell base start end) (jumpTarget (base + next) flow)
 
 -- the least depth at which a store is allowed, 256 where it is at none
 unfoldable pub storeCell : Limits → Place → ℕ
@@ -58,12 +57,7 @@ calleeCell image r address = cond (ltb (callee image r address) r) (callee image
 
 -- the same of a call, 0 where there is none
 abbrev pub callCell : List ℕ → ℕ → ℕ → Flow → ℕ
-callCell image r next Next = 0
-callCell image r next (Branch n) = 0
-callCell image r next (Jump n) = 0
-callCell image r next (Call a) = calleeCell image r a
-callCell image r next (CallRelative n) = calleeCell image r (relative (baseOf image + next) n)
-callCell image r next Return = 0
+callCell image r next flow = cellOf (calleeCell image r) (callTarget (baseOf image + next) flow)
 
 -- the cells of a start that passes 8, 9 and 15
 pub record Stored (image : List ℕ) (limits : Limits) (r : ℕ) (x : cells.Routine) (o : ℕ) : Type 0 where

@@ -9,15 +9,16 @@ use Rattle.image.specs.declared.Validated.{Validated}
 use Rattle.image.specs.declared.Validated.the-variants as Validated
 use Rattle.image.specs.Validation.{validated}
 use Rattle.image.specs.Image.{countOf, sizeOf, startOf, endOf}
-use Rattle.rules.specs.Depth.{reportedNeed}
-use Rattle.rules.specs.Code.{instructionAt}
+use Rattle.rules.specs.Rules.{reportedNeed}
+use Rattle.code.specs.Code.{instructionAt}
+use Rattle.code.specs.Instructions.{startsOf}
 use Rattle.rules.specs.declared.Verdict.{Verdict}
 use Rattle.rules.specs.declared.Verdict.the-variants.{Accepted, Refused}
 use Rattle.control_flow.specs.Graph.{cells}
 use Rattle.control_flow.specs.Routine.{jumpCheck, depthCheck, countFrom}
 use Rattle.control_flow.specs.Measuring.{useAt}
 use Rattle.acceptance.specs.Passed.{needIn}
-use Rattle.acceptance.specs.Starts.{startsOf, codeNumber, cellsOf}
+use Rattle.acceptance.specs.Starts.{codeNumber, cellsOf}
 use Rattle.acceptance.specs.Exploration.{Exploration, biasFor, explored}
 
 -- the number and the offset of a refusal; number 0: none

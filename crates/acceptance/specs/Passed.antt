@@ -8,7 +8,7 @@ use lib.Dec.{ltb}
 use lib.ListN.{length, getD}
 use Rattle.image.specs.declared.Limits.{Limits}
 use Rattle.image.specs.Image.{sizeOf, startOf, endOf}
-use Rattle.rules.specs.Code.{Start}
+use Rattle.code.specs.Code.{Start}
 use Rattle.rules.specs.Rules.{RoutineRules, Use, Greatest, countBelow}
 use Rattle.rules.specs.Refusal.{RoutineRefusal}
 

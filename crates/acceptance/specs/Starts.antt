@@ -1,5 +1,5 @@
--- The starts of a routine as a list, and the cells of its instructions.
-use Prim.Native.Nat.{ℕ, zero, suc, _+_, _-_}
+-- The cells of a routine's instructions.
+use Prim.Native.Nat.{ℕ, _+_}
 use mathlib.Core.Bool.{Bool, true, false, cond}
 use mathlib.Core.List.{List, [], _∷_}
 use lib.Dec.{eqb, ltb}
@@ -11,27 +11,13 @@ use Rattle.stm8.specs.declared.Decoded.the-variants.{Found, Outside, Truncated}
 use Rattle.stm8.specs.declared.Effect.{Effect}
 use Rattle.image.specs.declared.Limits.{Limits}
 use Rattle.image.specs.Image.{baseOf, startOf, endOf}
-use Rattle.rules.specs.Depth.{popped, pushed, falls}
-use Rattle.rules.specs.Code.{instructionAt}
+use Rattle.code.specs.Depth.{popped, pushed, falls}
+use Rattle.code.specs.Code.{instructionAt}
+use Rattle.code.specs.Instructions.{startsOf}
 use Rattle.control_flow.specs.Routine.{Routine}
 use Rattle.acceptance.specs.Cells.{fallCell, jumpCell, storeCell, callCell}
 
--- the bytes of an instruction, 0 where there is none
-abbrev pub bytesOf : Decoded → ℕ
-bytesOf (Found i n) = n
-bytesOf Outside = 0
-bytesOf Truncated = 0
-
--- the starts from an offset on, to the routine's end or to one where no instruction stands; fuel is at least the number of bytes left
-unfoldable pub startsFrom : ℕ → List ℕ → ℕ → ℕ → List ℕ
-startsFrom zero image r o = []
-startsFrom (suc fuel) image r o =
-    let n = bytesOf (instructionAt image r o) in
-    o ∷ cond (eqb n 0) [] (cond (ltb (o + n) (endOf image r)) (startsFrom fuel image r (o + n)) [])
-
-unfoldable pub startsOf : List ℕ → ℕ → List ℕ
-startsOf image r = startsFrom (endOf image r - startOf image r) image r (startOf image r)
-
+-- whether a list has a number
 unfoldable pub listed : ℕ → List ℕ → Bool
 listed o [] = false
 listed o (s ∷ rest) = cond (eqb o s) true (listed o rest)

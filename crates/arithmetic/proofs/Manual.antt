@@ -1,19 +1,16 @@
 -- The formulas of the manual's pages for C and H, and for the two sides of V, are the carries and the borrows.
 use Prim.Native.Nat.{ℕ, _+_, _-_, _%_, _^_, _≤_, _<_}
 use mathlib.Core.Path.{_≡_, refl, sym, ap, _∙_}
-use mathlib.Core.Bool.{Bool, true, false, not, xor, and-false}
+use mathlib.Core.Bool.{Bool, true, false, not, and-false}
 use native.Mathlib.Omega.{arith}
 use native.Mathlib.Nat.{mod-eq-of-lt, mod-lt, mod-add-mod, add-mod-right}
 use lib.Dec.{leb, eqb}
 use lib.Pow.{pow-pos, mod-mod-pow}
 use borrow.Author.Tests.{le-leb, lt-leb, lt-ltb, le-ltb}
 use Rattle.numbers.specs.Bits.{flag, bit}
-use Rattle.numbers.proofs.Computing.{below}
 use Rattle.arithmetic.specs.Bits.{isSet}
 use Rattle.arithmetic.specs.Formulas.{carryFormula, borrowFormula}
-use Rattle.arithmetic.specs.Sums.{sum, carryOut, difference, borrowOut, differenceOverflow, afterDifference}
-use Rattle.arithmetic.specs.Accumulator.{subtracted}
-use Rattle.arithmetic.specs.Modify.{NEG}
+use Rattle.arithmetic.specs.Sums.{sum, carryOut, difference, borrowOut}
 use Rattle.arithmetic.proofs.BitLaws.{flag-le, bit-low}
 use Rattle.arithmetic.proofs.Orders.{by-order}
 use Rattle.arithmetic.proofs.Overflow.{top}
@@ -117,16 +114,3 @@ module _ (w n a m : ℕ) (c : Bool) (inside : n < w) (fits-a : a < 2 ^ w) (fits-
       let r = difference w a m c in
       borrow-carry ∙ carry-formula w n r m c inside ∙ ap (λ x. carryFormula (isSet n r) (isSet n m) (isSet n x)) sum-difference ∙
       exchanged (isSet n a) (isSet n m) (isSet n r)
-
--- NEG's V and C, which its page gives by the operand, are those of the difference 00 - dst
-neg-overflow : (m : ℕ) → m < 256 → differenceOverflow 8 0 m false ≡ eqb m 128
-unfolding differenceOverflow borrowOut xor
-neg-overflow = below 255 (λ m. differenceOverflow 8 0 m false) (λ m. eqb m 128) refl
-
-neg-borrow : (m : ℕ) → m < 256 → borrowOut 7 0 m false ≡ not (eqb m 0)
-unfolding borrowOut
-neg-borrow = below 255 (λ m. borrowOut 7 0 m false) (λ m. not (eqb m 0)) refl
-
-pub neg-difference : (m cc : ℕ) → m < 256 → NEG m cc ≡ subtracted 0 m false cc
-unfolding NEG subtracted afterDifference
-neg-difference m cc h = rw (neg-overflow m h, neg-borrow m h)

@@ -1,9 +1,9 @@
--- Powers of two, remainders, and the code's way to a carry, a difference, a shift and a product.
+-- Powers of two, remainders, and the code's way to a carry and a difference.
 use Prim.Native.Nat.{ℕ, _+_, _-_, _*_, _%_, _^_, _≤_, _<_}
 use mathlib.Core.Path.{_≡_, sym, _∙_}
 use mathlib.Core.Bool.{cond}
 use native.Mathlib.Omega.{arith}
-use native.Mathlib.Nat.{two-pow-succ, one-mul, mod-eq-of-lt, mod-eq-sub-mod, mod-lt, lt-of-lt-of-le, lt-of-le-of-lt, mul-le-mul}
+use native.Mathlib.Nat.{two-pow-succ, one-mul, mod-eq-of-lt, mod-eq-sub-mod, mod-lt, lt-of-lt-of-le}
 use native.Mathlib.Numerals.{add-one}
 use lib.Dec.{ltb}
 use lib.Pow.{pow-pos, pow-lt, pow-mono}
@@ -37,11 +37,3 @@ wrapped p a m x r ha hm hx hr e =
     (λ h.
     let s : r + (m + x) - p ≡ a = sym (less-once h (omega arith)) ∙ e in
     rw (lt-ltb a (m + x) (omega arith)) (omega arith)))
-
--- to double the low seven bits of a byte is to double it modulo 256
-pub doubled : (m : ℕ) → m % 128 * 2 ≡ m * 2 % 256
-doubled m = omega arith
-
--- a product of two bytes is a word
-pub product-fits : (x y : ℕ) → x < 256 → y < 256 → x * y < 65536
-product-fits x y hx hy = lt-of-le-of-lt (mul-le-mul {n₂ = 255} {m₂ = 255} (omega arith) (omega arith)) (omega arith)

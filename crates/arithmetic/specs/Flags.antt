@@ -1,7 +1,7 @@
 -- The condition code register. CC holds V, I1, H, I0, N, Z, C at bits 7, 5, 4, 3, 2, 1, 0; no operation puts in bit 6, I1 or I0.
 use Prim.Native.Nat.{ℕ, _-_}
 use mathlib.Core.Path.{_≡_}
-use mathlib.Core.Bool.{Bool, true, false, not}
+use mathlib.Core.Bool.{Bool}
 use mathlib.Core.List.{List, [], _∷_}
 use lib.Dec.{eqb}
 use Rattle.numbers.specs.Bits.{bit}
@@ -47,19 +47,3 @@ rest cc = bit 6 cc ∷ bit 5 cc ∷ bit 3 cc ∷ []
 -- CC after an operation has them as CC before it
 abbrev pub Keeps : ℕ → ℕ → Type 0
 Keeps cc after = rest after ≡ rest cc
-
--- - - - - - - 1
-abbrev pub SCF : ℕ → ℕ
-SCF cc = withC true cc
-
--- - - - - - - 0
-abbrev pub RCF : ℕ → ℕ
-RCF cc = withC false cc
-
--- - - - - - - C, complemented
-abbrev pub CCF : ℕ → ℕ
-CCF cc = withC (not (flagC cc)) cc
-
--- 0 - - - - - -
-abbrev pub RVF : ℕ → ℕ
-RVF cc = withV false cc

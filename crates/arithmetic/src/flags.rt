@@ -1,6 +1,6 @@
-// The flags of CC, and the operations on a flag alone.
+// The flags of CC.
 ghost use mathlib.Core.Path.{_≡_};
-ghost use Rattle.arithmetic.specs.Flags.{flagV, flagN, flagZ, flagC, withV, withH, withN, withZ, withC, withNZ, SCF, RCF, CCF, RVF};
+ghost use Rattle.arithmetic.specs.Flags.{flagV, flagN, flagZ, flagC, withV, withH, withN, withZ, withC, withNZ};
 use crate::bits::is_set;
 use crate::bits::with_bit;
 
@@ -72,28 +72,4 @@ pub fn with_nz_of_word(value: u16, cc: u8) -> u8
     ensures { λ r. ⌜ r ≡ withNZ 16 value cc ⌝ }
 {
     with_n_and_z(value / 32768 % 2 == 1, value == 0, cc)
-}
-
-pub fn scf(cc: u8) -> u8
-    ensures { λ r. ⌜ r ≡ SCF cc ⌝ }
-{
-    with_c(true, cc)
-}
-
-pub fn rcf(cc: u8) -> u8
-    ensures { λ r. ⌜ r ≡ RCF cc ⌝ }
-{
-    with_c(false, cc)
-}
-
-pub fn ccf(cc: u8) -> u8
-    ensures { λ r. ⌜ r ≡ CCF cc ⌝ }
-{
-    with_c(!carry(cc), cc)
-}
-
-pub fn rvf(cc: u8) -> u8
-    ensures { λ r. ⌜ r ≡ RVF cc ⌝ }
-{
-    with_v(false, cc)
 }

@@ -55,7 +55,7 @@ pub fn byte_difference(a: u8, m: u8, c: bool) -> u8
     std::num::wrapping_sub_u8(std::num::wrapping_sub_u8(a, m), flag(c))
 }
 
-// The operations on words take no carry in.
+// Sums and differences of words take no carry in.
 pub fn word_sum(a: u16, m: u16) -> u16
     ensures { λ r. ⌜ r ≡ sum 16 a m false ⌝ }
 {
@@ -68,21 +68,21 @@ pub fn word_difference(a: u16, m: u16) -> u16
     std::num::wrapping_sub_u16(a, m)
 }
 
-// H of ADD and ADC.
+// H of a sum of bytes.
 pub fn byte_half_carry(a: u8, m: u8, c: bool) -> bool
     ensures { λ r. ⌜ r ≡ carryOut 3 a m c ⌝ }
 {
     carry_out(3, a as u32, m as u32, c)
 }
 
-// H of ADDW.
+// H of a sum of words.
 pub fn word_half_carry(a: u16, m: u16) -> bool
     ensures { λ r. ⌜ r ≡ carryOut 7 a m false ⌝ }
 {
     carry_out(7, a as u32, m as u32, false)
 }
 
-// H of SUBW.
+// H of a difference of words.
 pub fn word_half_borrow(a: u16, m: u16) -> bool
     ensures { λ r. ⌜ r ≡ borrowOut 7 a m false ⌝ }
 {

@@ -1,4 +1,3 @@
-pub mod Bytes
 pub mod Callees
 pub mod DecodePass
 pub mod Routines

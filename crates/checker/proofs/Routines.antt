@@ -14,12 +14,13 @@ use Rattle.image.specs.Validation.{validated}
 use Rattle.image.specs.declared.Limits.{Limits}
 use Rattle.image.specs.declared.Layout.{Layout}
 use Rattle.image.specs.declared.Validated.the-variants.{Valid}
-use Rattle.image.proofs.Layouts.{valid-bounds, base-is, count-is, code-is, size-is}
+use Rattle.image.proofs.Layouts.{valid-bounds, base-is, count-is, size-is}
 use Rattle.image.proofs.Measuring.{start-zero, start-next, start-inside, end-inside}
 use Rattle.image.proofs.Validity.{valid-rules}
-use Rattle.rules.specs.Code.{Start}
+use Rattle.code.specs.Code.{Start}
 use Rattle.rules.specs.Rules.{countBelow}
 use Rattle.rules.proofs.RefusalNumbers.{routine-refusal-at}
+use Rattle.control_flow.specs.Graph.{column}
 use Rattle.control_flow.specs.Routine as cells
 use Rattle.control_flow.specs.Exploring.{Checkable, Left}
 use Rattle.acceptance.specs.Cells.{Filled}
@@ -28,7 +29,7 @@ use Rattle.acceptance.proofs.Graphs.{decoded}
 use Rattle.acceptance.proofs.OneRoutine.{code-refused, checked-refused, checked-passed}
 use Rattle.acceptance.proofs.AllRoutines.{zeros-at, none-yet, one-more}
 use Rattle.acceptance.proofs.NeedBounds.{need-bound, no-needs, needs-bound}
-use Rattle.checker.specs.Internal.{Begins, RoutineOf, Sized, RoutineDecoded, refused, filled, Clean, NeedsBelow, Swept, ended, stopped, Small}
+use Rattle.checker.specs.Internal.{Begins, RoutineOf, NoStarts, cellsOf, RoutineDecoded, refused, filled, Clean, NeedsBelow, Swept, ended, stopped, Small}
 use Rattle.checker.specs.declared.decoding.Routine.{Routine}
 use Rattle.checker.specs.declared.sweep.Sweep.{Sweep}
 use Rattle.checker.proofs.DecodePass.{fault-some, start-below}
@@ -54,7 +55,7 @@ count-most test (suc n) = omega (arith, count-most test n, flag-most (test n))
 -- the next routine of a valid image
 pub routine-of : {image : List ℕ} {limits : Limits} {layout : Layout} {index start length : ℕ} → validated image limits ≡ Valid layout →
     index < layout .count → start ≡ startOf image index → length ≡ lengthAt image index →
-    RoutineOf image (record { index = index; start = start; end = start + length; base = layout .base; code = layout .code; limits = limits })
+    RoutineOf image (record { index = index; start = start; end = start + length; base = layout .base; limits = limits })
 unfolding endOf
 routine-of {image} {limits} {layout} {index} valid below start-is length-is =
     let b = valid-bounds image limits layout valid in
@@ -63,31 +64,28 @@ routine-of {image} {limits} {layout} {index} valid below start-is length-is =
       layout = rules;
       inside = omega (arith, count-is image limits layout valid);
       base-is = base-is image limits layout valid;
-      code-is = code-is image limits layout valid;
       start-is = start-is;
       end-is = rw (start-is, length-is);
       index = omega (arith, b .count .1);
       some = omega (arith, b .begins index below);
       size = omega (arith, b .ends index below, b .size .1);
-      long = omega (arith, b .ends index below, b .end);
     }
 
 -- a routine after the decode pass
-module _ {image : List ℕ} {r : Routine} {x : cells.Routine} where
-  pub decode-refused : {number at need count : ℕ} {needs given marks : List ℕ} → RoutineDecoded image r x number at → (number ≡ 0 → ⊥) →
+module _ {image : List ℕ} {r : Routine} {rows : List (List ℕ)} where
+  pub decode-refused : {number at need count : ℕ} {needs given marks : List ℕ} → RoutineDecoded image r rows number at → (number ≡ 0 → ⊥) →
       RoutineChecked image (r .limits) needs (r .index) given number at marks need count
   decode-refused (refused l) not = code-refused l
-  decode-refused (filled f clear) not = absurd (not refl)
+  decode-refused (filled f rest) not = absurd (not refl)
 
-  pub decode-filled : {number at : ℕ} → RoutineDecoded image r x number at → number ≡ 0 →
-      Filled image (r .limits) (r .index) x × ((o : ℕ) → r .end ≤ o → x .starts o ≡ 0)
+  pub decode-filled : {number at : ℕ} → RoutineDecoded image r rows number at → number ≡ 0 →
+      Filled image (r .limits) (r .index) (cellsOf r rows) × NoStarts (r .end) rows
   decode-filled (refused l) none = absurd (omega (arith, fault-some (l .fault)))
-  decode-filled (filled f clear) none = (f, clear)
+  decode-filled (filled f rest) none = (f, rest)
 
 -- what it is checked with, before and after
-module _ {image : List ℕ} {r : Routine} (routine : RoutineOf image r) {starts falls jumps pops pushes stores calls depths stack : List ℕ}
-    (clean : Clean (r .start) starts falls jumps pops pushes stores calls depths stack) {x : cells.Routine}
-    (f : Filled image (r .limits) (r .index) x) where
+module _ {image : List ℕ} {r : Routine} (routine : RoutineOf image r) {rows : List (List ℕ)} {depths stack : List ℕ}
+    (clean : Clean (r .start) rows depths stack) {x : cells.Routine} (f : Filled image (r .limits) (r .index) x) where
   pub checkable : Checkable x depths stack
   checkable =
       record {
@@ -97,15 +95,13 @@ module _ {image : List ℕ} {r : Routine} (routine : RoutineOf image r) {starts 
         clear = λ o s. clean .no-depths o (omega (arith, s .low, f .entry, routine .start-is));
       }
 
-  pub clean-after : {starts′ falls′ jumps′ pops′ pushes′ stores′ calls′ depths′ stack′ : List ℕ} →
-      Sized starts′ falls′ jumps′ pops′ pushes′ stores′ calls′ → ((o : ℕ) → r .end ≤ o → getD starts′ o 0 ≡ 0) → Left x depths depths′ stack′ →
-      Clean (r .end) starts′ falls′ jumps′ pops′ pushes′ stores′ calls′ depths′ stack′
-  clean-after sized clear left =
+  pub clean-after : {rows′ : List (List ℕ)} {depths′ stack′ : List ℕ} → NoStarts (r .end) rows′ → Left x depths depths′ stack′ →
+      Clean (r .end) rows′ depths′ stack′
+  clean-after rest left =
       record {
-        sized = sized;
+        no-starts = rest;
         depths-cells = left .cells;
         slots = left .slots;
-        no-starts = clear;
         no-depths = λ o past.
             ⊎-elim (λ s. absurd (omega (arith, s .high, f .end, routine .end-is))) (λ e. e ∙ clean .no-depths o (omega (arith, routine .some)))
             (left .others o);
@@ -140,25 +136,17 @@ between-none {image} {limits} {s = s} clear e =
       needs = rw (e .2, e .4) no-needs;
     }
 
-pub zeros-clean : (from : ℕ) →
-    Clean from (replicate 4096 0) (replicate 4096 0) (replicate 4096 0) (replicate 4096 0) (replicate 4096 0) (replicate 4096 0) (replicate 4096 0)
-    (replicate 4096 0) (replicate 4096 0)
+blank-row : (n o : ℕ) → column 0 (replicate n (replicate {A = ℕ} 7 0)) o ≡ 0
+blank-row zero o = refl
+blank-row (suc n) zero = refl
+blank-row (suc n) (suc o) = blank-row n o
+
+pub zeros-clean : (from : ℕ) → Clean from (replicate 4096 (replicate {A = ℕ} 7 0)) (replicate 4096 0) (replicate 4096 0)
 zeros-clean from =
-    let l = length-replicate {A = ℕ} 4096 0 in
     record {
-      sized =
-          record {
-            starts-cells = l;
-            falls-cells = l;
-            jumps-cells = l;
-            pops-cells = l;
-            pushes-cells = l;
-            stores-cells = l;
-            calls-cells = l;
-          };
-      depths-cells = l;
-      slots = l;
-      no-starts = λ o past. zeros-at 4096 o;
+      no-starts = record { size = length-replicate 4096 (replicate {A = ℕ} 7 0); clear = λ o past. blank-row 4096 o };
+      depths-cells = length-replicate {A = ℕ} 4096 0;
+      slots = length-replicate {A = ℕ} 4096 0;
       no-depths = λ o past. zeros-at 4096 o;
     }
 

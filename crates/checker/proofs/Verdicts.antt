@@ -10,7 +10,7 @@ use Rattle.image.specs.declared.Limits.{Limits}
 use Rattle.image.specs.declared.Layout.{Layout}
 use Rattle.image.specs.declared.Validated.the-variants.{Valid}
 use Rattle.image.proofs.Layouts.{count-is}
-use Rattle.rules.specs.Depth.{reportedNeed}
+use Rattle.rules.specs.Rules.{reportedNeed}
 use Rattle.rules.specs.Outcome.{Outcome}
 use Rattle.rules.specs.declared.Verdict.{Verdict}
 use Rattle.acceptance.specs.Passed.{needIn}

@@ -1,15 +1,19 @@
 // Exploring the control flow of one routine: every reached start once, with the depth of a path to it.
 ghost use mathlib.Core.Path.{_≡_};
-ghost use mathlib.Core.List.{List};
 ghost use Prim.Native.Nat.{ℕ, _≤_};
 ghost use lib.ListN.{length};
 ghost use Rattle.control_flow.specs.Graph.{graph};
 ghost use Rattle.control_flow.specs.Routine.{routine};
 ghost use Rattle.control_flow.specs.Exploring.{middle, known, Followed, DepthAfter, Ready, Visited, Explorable, Explored, LowestUnknown};
+use crate::cells::FALL;
+use crate::cells::JUMP;
+use crate::cells::POPS;
+use crate::cells::PUSHES;
+use crate::cells::START;
 use crate::marks::wide;
 
 // What is held for depth 0: `middle` of the definitions.
-pub(crate) const MIDDLE: usize = 1048576;
+pub(crate) const MIDDLE: usize = 536870912;
 
 // The state of an exploration: how many offsets the stack holds, and whether every edge so far agrees with the depths.
 pub(crate) struct Exploration {
@@ -53,46 +57,40 @@ fn follow(
 }
 
 // The depth after an instruction that pushes and pops so many bytes.
-fn depth_after(depth: u32, pushed: u8, popped: u8) -> u32
-    requires { ⌜ (256 ≤ depth) × (depth ≤ 4000000000) ⌝ }
-    ensures { λ r. ⌜ DepthAfter 255 depth pushed popped r ⌝ }
+fn depth_after(depth: u32, pushed: u16, popped: u16) -> u32
+    requires { ⌜ (65536 ≤ depth) × (depth ≤ 4000000000) ⌝ }
+    ensures { λ r. ⌜ DepthAfter 65535 depth pushed popped r ⌝ }
 {
     depth + pushed as u32 - popped as u32
 }
 
 // Offset o, which has left the stack, is visited: each of its edges is followed.
 fn visit(
-    falls: &[u16; 4096],
-    jumps: &[u16; 4096],
-    pops: &[u8; 4096],
-    pushes: &[u8; 4096],
+    cells: &[[u16; 7]; 4096],
     depths: &mut [u32; 4096],
     stack: &mut [u16; 4096],
     o: usize,
     e: Exploration,
 ) -> Exploration
-    requires { ⌜ Ready (graph o (now falls) (now jumps) (now pops) (now pushes)) (now depths) (e .height) o ⌝ }
-    ensures { λ r. ⌜ ((entry : ℕ) → Visited 255 (graph entry (now (falls .entry)) (now (jumps .entry)) (now (pops .entry)) (now (pushes .entry))) o
+    requires { ⌜ Ready (graph o (now cells)) (now depths) (e .height) o ⌝ }
+    ensures { λ r. ⌜ ((entry : ℕ) → Visited 65535 (graph entry (now (cells .entry))) o
         (now (depths .entry)) (now (stack .entry)) (e .height) (e .agree) (now (depths .exit)) (now (stack .exit)) (r .height) (r .agree)) ⌝ }
 {
-    let depth = depth_after(depths[o], pushes[o], pops[o]);
-    let fallen = follow(falls[o], depth, depths, stack, e);
-    follow(jumps[o], depth, depths, stack, fallen)
+    let row = cells[o];
+    let depth = depth_after(depths[o], row[PUSHES], row[POPS]);
+    let fallen = follow(row[FALL], depth, depths, stack, e);
+    follow(row[JUMP], depth, depths, stack, fallen)
 }
 
 // At every offset that is reached from the entry the depth of a path to it is noted. Says whether all paths agree on every depth.
 pub(crate) fn explore(
     entry: usize,
-    falls: &[u16; 4096],
-    jumps: &[u16; 4096],
-    pops: &[u8; 4096],
-    pushes: &[u8; 4096],
+    cells: &[[u16; 7]; 4096],
     depths: &mut [u32; 4096],
     stack: &mut [u16; 4096],
 ) -> bool
-    requires { ⌜ Explorable (graph entry (now falls) (now jumps) (now pops) (now pushes)) (now depths) (now stack) ⌝ }
-    ensures { λ r. ⌜ Explored middle (graph entry (now (falls .entry)) (now (jumps .entry)) (now (pops .entry)) (now (pushes .entry)))
-        (now (depths .entry)) (now (depths .exit)) r ⌝ }
+    requires { ⌜ Explorable (graph entry (now cells)) (now depths) (now stack) ⌝ }
+    ensures { λ r. ⌜ Explored middle (graph entry (now (cells .entry))) (now (depths .entry)) (now (depths .exit)) r ⌝ }
     ensures { λ r. ⌜ length (now (stack .exit)) ≡ 4096 ⌝ }
 {
     depths[entry] = MIDDLE as u32;
@@ -108,7 +106,7 @@ pub(crate) fn explore(
             height: top,
             agree: e.agree,
         };
-        e = visit(falls, jumps, pops, pushes, depths, stack, o, rest);
+        e = visit(cells, depths, stack, o, rest);
     }
     e.agree
 }
@@ -117,16 +115,15 @@ pub(crate) fn explore(
 pub(crate) fn lowest_unknown(
     entry: usize,
     end: usize,
-    starts: &[u8; 4096],
+    cells: &[[u16; 7]; 4096],
     depths: &[u32; 4096],
 ) -> usize
     requires { ⌜ (entry ≤ end) × (end ≤ 4096) ⌝ }
-    ensures { λ r. ⌜ ((falls jumps pops pushes stores calls : List ℕ) →
-        LowestUnknown (routine entry end (now (starts .entry)) falls jumps pops pushes stores calls) (now (depths .entry)) r) ⌝ }
+    ensures { λ r. ⌜ LowestUnknown (routine entry end (now (cells .entry))) (now (depths .entry)) r ⌝ }
 {
     let mut o = entry;
     while o < end {
-        if starts[o] != 0 {
+        if cells[o][START] != 0 {
             if depths[o] == 0 {
                 return o;
             }

@@ -28,56 +28,30 @@ fn refused(number: u8, at: usize, counted: usize) -> Checked
 pub(crate) fn check_flow(
     entry: usize,
     end: usize,
-    starts: &[u8; 4096],
-    falls: &[u16; 4096],
-    jumps: &[u16; 4096],
-    pops: &[u8; 4096],
-    pushes: &[u8; 4096],
-    stores: &[u16; 4096],
-    calls: &[u8; 4096],
+    cells: &[[u16; 7]; 4096],
     needs: &[u16; 32],
     counted: usize,
     depths: &mut [u32; 4096],
     stack: &mut [u16; 4096],
     marks: &mut [u16],
 ) -> Checked
-    requires { ⌜ Checkable (routine entry end (now starts) (now falls) (now jumps) (now pops) (now pushes) (now stores) (now calls))
-        (now depths) (now stack) × (end ≤ length (now marks)) × (counted ≤ entry) ⌝ }
-    ensures { λ r. ⌜ FlowOutcome
-        (routine entry end (now (starts .entry)) (now (falls .entry)) (now (jumps .entry)) (now (pops .entry)) (now (pushes .entry))
-        (now (stores .entry)) (now (calls .entry)))
-        (now (needs .entry)) (now (marks .entry)) counted (r .refusal) (r .at) (now (marks .exit)) (r .need) (r .count) ⌝ }
-    ensures { λ r. ⌜ Left
-        (routine entry end (now (starts .entry)) (now (falls .entry)) (now (jumps .entry)) (now (pops .entry)) (now (pushes .entry))
-        (now (stores .entry)) (now (calls .entry)))
-        (now (depths .entry)) (now (depths .exit)) (now (stack .exit)) ⌝ }
+    requires { ⌜ Checkable (routine entry end (now cells)) (now depths) (now stack) × (end ≤ length (now marks)) × (counted ≤ entry) ⌝ }
+    ensures { λ r. ⌜ FlowOutcome (routine entry end (now (cells .entry))) (now (needs .entry)) (now (marks .entry)) counted
+        (r .refusal) (r .at) (now (marks .exit)) (r .need) (r .count) ⌝ }
+    ensures { λ r. ⌜ Left (routine entry end (now (cells .entry))) (now (depths .entry)) (now (depths .exit)) (now (stack .exit)) ⌝ }
     ensures { λ r. ⌜ (r .at ≤ end) × (r .count ≤ end) ⌝ }
 {
-    let strayed = check_jumps(entry, end, starts, jumps);
+    let strayed = check_jumps(entry, end, cells);
     if strayed.number != 0 {
         return refused(strayed.number, strayed.at, counted);
     }
-    let agree = explore(entry, falls, jumps, pops, pushes, depths, stack);
-    let lowest = lowest_unknown(entry, end, starts, &*depths);
+    let agree = explore(entry, cells, depths, stack);
+    let lowest = lowest_unknown(entry, end, cells, &*depths);
     if lowest < end {
         return refused(6, lowest, counted);
     }
     if agree {
-        check_depths(
-            entry,
-            end,
-            starts,
-            falls,
-            jumps,
-            pops,
-            pushes,
-            stores,
-            calls,
-            needs,
-            counted,
-            &*depths,
-            marks,
-        )
+        check_depths(entry, end, cells, needs, counted, &*depths, marks)
     } else {
         refused(7, entry, counted)
     }

@@ -1,7 +1,6 @@
 // The check of an image under limits: refusals 1 to 16, the marks, the need and the count.
 mod cells;
 mod decoding;
-mod depth;
 mod exploring;
 mod flow;
 mod jumps;
@@ -17,7 +16,7 @@ ghost use lib.ListN.{length};
 ghost use Rattle.image.specs.Image.{countOf, sizeOf};
 ghost use Rattle.image.specs.Validation.{validated};
 ghost use Rattle.image.specs.declared.Validated.the-variants.{Valid};
-ghost use Rattle.rules.specs.Outcome.{Outcome};
+ghost use Rattle.rules.specs.Outcome.{Outcome, VerdictNumbered};
 ghost use Rattle.acceptance.specs.Check.{checked};
 ghost use Rattle.checker.specs.Internal.{Begins, Small, VerdictOf, codeMarks, CodeOutcome};
 use crate::marks::clear;
@@ -78,20 +77,9 @@ fn check_code(image: &[u8], limits: Limits, layout: Layout, marks: &mut [u16]) -
     ensures { λ r. ⌜ CodeOutcome (now (image .entry)) limits r (now (marks .exit)) ⌝ }
 {
     clear(marks);
-    let plain = stm8::plain_lengths();
-    let after_72 = stm8::after_72_lengths();
-    let after_90 = stm8::after_90_lengths();
+    let lengths = stm8::map_lengths();
     let begins = routine_begins(image, layout.count);
-    let s = sweep_routines(
-        image,
-        limits,
-        layout,
-        &plain,
-        &after_72,
-        &after_90,
-        &begins,
-        marks,
-    );
+    let s = sweep_routines(image, limits, layout, &lengths, &begins, marks);
     let v = verdict_of(limits, layout, s);
     clear_refused(v, marks);
     v
@@ -112,6 +100,7 @@ fn check_valid(image: &[u8], limits: Limits, layout: Layout, marks: &mut [u16]) 
 // Checks an image under limits.
 pub fn check(image: &[u8], limits: Limits, marks: &mut [u16]) -> Verdict
     ensures { λ r. ⌜ checked (now (image .entry)) limits (now (marks .entry)) ≡ (r, now (marks .exit)) ⌝ }
+    ensures { λ r. ⌜ VerdictNumbered 16 r ⌝ }
 {
     let v = validate(image, limits);
     match v {

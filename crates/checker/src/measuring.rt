@@ -2,11 +2,18 @@
 ghost use mathlib.Core.Path.{_≡_};
 ghost use Prim.Native.Nat.{ℕ, _≤_, _<_};
 ghost use lib.ListN.{length};
-ghost use Rattle.control_flow.specs.Graph.{cells};
+ghost use Rattle.control_flow.specs.Graph.{cells as heldIn};
 ghost use Rattle.control_flow.specs.Routine.{routine, depthNumber, depthCheck};
 ghost use Rattle.control_flow.specs.Outcome.{Measured};
 ghost use Rattle.control_flow.specs.Exploring.{middle, Tested};
 ghost use Rattle.control_flow.specs.Measuring.{DepthStep, Measurable};
+use crate::cells::CALL;
+use crate::cells::FALL;
+use crate::cells::JUMP;
+use crate::cells::POPS;
+use crate::cells::PUSHES;
+use crate::cells::START;
+use crate::cells::STORE;
 use crate::exploring::MIDDLE;
 use crate::uses::larger;
 use crate::uses::used;
@@ -25,18 +32,26 @@ pub(crate) struct Checked {
 }
 
 // 11, 12 or 14 for an instruction by its cells, where its depth is held as `held`.
-fn depth_number(held: u32, falls: u16, jumps: u16, pops: u8, pushes: u8, store: u16, call: u8) -> u8
+fn depth_number(
+    held: u32,
+    falls: u16,
+    jumps: u16,
+    pops: u16,
+    pushes: u16,
+    store: u16,
+    call: u16,
+) -> u8
     ensures { λ r. ⌜ r ≡ depthNumber middle held falls jumps pops pushes store call ⌝ }
 {
     let held = held as usize;
-    let behind = held + pushes as usize;
+    let raised = held + pushes as usize;
     let pops = pops as usize;
     let called = under(32, call as usize, 14);
     let stored = first(under(held, MIDDLE + store as usize, 12), called);
     let back = both(under(jumps as usize, 1, 11), differ(held, MIDDLE, 11));
     let back = first(both(under(falls as usize, 1, 11), back), stored);
-    let high = first(under(MIDDLE + 255 + pops, behind, 11), back);
-    let low = first(under(behind, MIDDLE + pops, 11), high);
+    let high = first(under(MIDDLE + 255 + pops, raised, 11), back);
+    let low = first(under(raised, MIDDLE + pops, 11), high);
     first(
         under(held, MIDDLE, 11),
         first(under(MIDDLE + 255, held, 11), low),
@@ -45,27 +60,19 @@ fn depth_number(held: u32, falls: u16, jumps: u16, pops: u8, pushes: u8, store: 
 
 // One offset: nothing where it is no start, else 11, 12 and 14, its mark, its use and the count.
 fn check_depth(
-    starts: &[u8; 4096],
-    falls: &[u16; 4096],
-    jumps: &[u16; 4096],
-    pops: &[u8; 4096],
-    pushes: &[u8; 4096],
-    stores: &[u16; 4096],
-    calls: &[u8; 4096],
+    cells: &[[u16; 7]; 4096],
     needs: &[u16; 32],
     depths: &[u32; 4096],
     marks: &mut [u16],
     c: Checked,
 ) -> Checked
     requires { ⌜ (c .at < 4096) × (c .at < length (now marks)) × (c .count ≤ 4096) ⌝ }
-    ensures { λ r. ⌜ ((entry end : ℕ) → DepthStep
-        (routine entry end (now (starts .entry)) (now (falls .entry)) (now (jumps .entry)) (now (pops .entry)) (now (pushes .entry))
-        (now (stores .entry)) (now (calls .entry)))
-        (now (needs .entry)) middle (cells (now (depths .entry))) (now (marks .entry)) (c .at) (c .need) (c .count)
-        (r .refusal) (r .at) (now (marks .exit)) (r .need) (r .count)) ⌝ }
+    ensures { λ r. ⌜ ((entry end : ℕ) → DepthStep (routine entry end (now (cells .entry))) (now (needs .entry)) middle (heldIn (now (depths .entry)))
+        (now (marks .entry)) (c .at) (c .need) (c .count) (r .refusal) (r .at) (now (marks .exit)) (r .need) (r .count)) ⌝ }
 {
     let o = c.at;
-    if starts[o] == 0 {
+    let row = cells[o];
+    if row[START] == 0 {
         return Checked {
             refusal: 0,
             at: o + 1,
@@ -74,10 +81,10 @@ fn check_depth(
         };
     }
     let held = depths[o];
-    let popped = pops[o];
-    let pushed = pushes[o];
-    let call = calls[o];
-    let number = depth_number(held, falls[o], jumps[o], popped, pushed, stores[o], call);
+    let popped = row[POPS];
+    let pushed = row[PUSHES];
+    let call = row[CALL];
+    let number = depth_number(held, row[FALL], row[JUMP], popped, pushed, row[STORE], call);
     if number != 0 {
         return Checked {
             refusal: number,
@@ -101,27 +108,17 @@ fn check_depth(
 pub(crate) fn check_depths(
     entry: usize,
     end: usize,
-    starts: &[u8; 4096],
-    falls: &[u16; 4096],
-    jumps: &[u16; 4096],
-    pops: &[u8; 4096],
-    pushes: &[u8; 4096],
-    stores: &[u16; 4096],
-    calls: &[u8; 4096],
+    cells: &[[u16; 7]; 4096],
     needs: &[u16; 32],
     counted: usize,
     depths: &[u32; 4096],
     marks: &mut [u16],
 ) -> Checked
-    requires { ⌜ Measurable (routine entry end (now starts) (now falls) (now jumps) (now pops) (now pushes) (now stores) (now calls))
-        middle (cells (now depths)) (now marks) counted ⌝ }
-    ensures { λ r. ⌜ (let x = routine entry end (now (starts .entry)) (now (falls .entry)) (now (jumps .entry)) (now (pops .entry)) (now (pushes .entry))
-        (now (stores .entry)) (now (calls .entry)) in
-        Tested x (depthCheck x middle (cells (now (depths .entry)))) (r .refusal) (r .at)) ⌝ }
-    ensures { λ r. ⌜ (r .refusal ≡ 0 → Measured
-        (routine entry end (now (starts .entry)) (now (falls .entry)) (now (jumps .entry)) (now (pops .entry)) (now (pushes .entry))
-        (now (stores .entry)) (now (calls .entry)))
-        (now (needs .entry)) middle (cells (now (depths .entry))) (now (marks .entry)) (now (marks .exit)) counted (r .need) (r .count)) ⌝ }
+    requires { ⌜ Measurable (routine entry end (now cells)) middle (heldIn (now depths)) (now marks) counted ⌝ }
+    ensures { λ r. ⌜ (let x = routine entry end (now (cells .entry)) in
+        Tested x (depthCheck x middle (heldIn (now (depths .entry)))) (r .refusal) (r .at)) ⌝ }
+    ensures { λ r. ⌜ (r .refusal ≡ 0 → Measured (routine entry end (now (cells .entry))) (now (needs .entry)) middle (heldIn (now (depths .entry)))
+        (now (marks .entry)) (now (marks .exit)) counted (r .need) (r .count)) ⌝ }
     ensures { λ r. ⌜ (r .at ≤ end) × (r .count ≤ end) ⌝ }
 {
     let mut c = Checked {
@@ -131,19 +128,7 @@ pub(crate) fn check_depths(
         count: counted,
     };
     while c.at < end {
-        c = check_depth(
-            starts,
-            falls,
-            jumps,
-            pops,
-            pushes,
-            stores,
-            calls,
-            needs,
-            depths,
-            marks,
-            c,
-        );
+        c = check_depth(cells, needs, depths, marks, c);
         if c.refusal != 0 {
             return c;
         }

@@ -2,10 +2,10 @@
 ghost use mathlib.Core.Path.{_≡_};
 ghost use Prim.Native.Nat.{_+_, _≤_, _<_};
 ghost use lib.ListN.{set, replicate};
-ghost use Rattle.stm8.specs.Decoding.{Tables};
-ghost use Rattle.image.specs.Image.{sizeOf, startOf};
+ghost use Rattle.image.specs.Image.{versionOf, sizeOf, startOf};
 ghost use Rattle.image.specs.Validation.{validated};
 ghost use Rattle.image.specs.declared.Validated.the-variants.{Valid};
+ghost use Rattle.code.specs.Set.{lengthsFor};
 ghost use Rattle.acceptance.specs.Passed.{RoutineChecked, RoutinesPassed};
 ghost use Rattle.checker.specs.Internal.{Begins, RoutineOf, Clean, Swept, Small};
 use crate::decoding::Routine;
@@ -38,77 +38,45 @@ fn routine_at(image: &[u8], limits: Limits, layout: Layout, index: usize, start:
         start,
         end,
         base: layout.base,
-        code: layout.code,
         limits,
     }
 }
 
-// One routine: 8, 9 and 15 over all its starts, then by its cells.
+// The next routine: 8, 9 and 15 over all its starts, then by its cells.
 fn check_routine(
     image: &[u8],
-    r: Routine,
-    plain: &[u8; 256],
-    after_72: &[u8; 256],
-    after_90: &[u8; 256],
+    lengths: &[[u8; 256]; 3],
     begins: &[u16; 32],
-    needs: &[u16; 32],
-    counted: usize,
-    starts: &mut [u8; 4096],
-    falls: &mut [u16; 4096],
-    jumps: &mut [u16; 4096],
-    pops: &mut [u8; 4096],
-    pushes: &mut [u8; 4096],
-    stores: &mut [u16; 4096],
-    calls: &mut [u8; 4096],
+    r: Routine,
+    s: Sweep,
+    cells: &mut [[u16; 7]; 4096],
     depths: &mut [u32; 4096],
     stack: &mut [u16; 4096],
     marks: &mut [u16],
 ) -> Checked
-    requires { ⌜ RoutineOf (now image) r × Tables (now plain) (now after_72) (now after_90) × Begins (now image) (now begins) (r .index)
-        × Clean (r .start) (now starts) (now falls) (now jumps) (now pops) (now pushes) (now stores) (now calls)
-        (now depths) (now stack)
-        × RoutinesPassed (now image) (r .limits) (r .index) (now needs) (now marks) counted ⌝ }
-    ensures { λ x. ⌜ RoutineChecked (now (image .entry)) (r .limits) (now (needs .entry)) (r .index)
+    requires { ⌜ RoutineOf (now image) r × (now lengths ≡ lengthsFor (versionOf (now image))) × Begins (now image) (now begins) (r .index)
+        × Clean (r .start) (now cells) (now depths) (now stack)
+        × RoutinesPassed (now image) (r .limits) (r .index) (s .needs) (now marks) (s .count) ⌝ }
+    ensures { λ x. ⌜ RoutineChecked (now (image .entry)) (r .limits) (s .needs) (r .index)
         (now (marks .entry)) (x .refusal) (x .at) (now (marks .exit)) (x .need) (x .count) ⌝ }
-    ensures { λ x. ⌜ (x .refusal ≡ 0 → Clean (r .end) (now (starts .exit)) (now (falls .exit)) (now (jumps .exit))
-        (now (pops .exit)) (now (pushes .exit)) (now (stores .exit)) (now (calls .exit))
-        (now (depths .exit)) (now (stack .exit))) ⌝ }
+    ensures { λ x. ⌜ (x .refusal ≡ 0 → Clean (r .end) (now (cells .exit)) (now (depths .exit)) (now (stack .exit))) ⌝ }
 {
-    let d = decode_routine(
-        image,
-        r,
-        plain,
-        after_72,
-        after_90,
-        begins,
-        starts,
-        falls,
-        jumps,
-        pops,
-        pushes,
-        stores,
-        calls,
-    );
-    if d.refusal != 0 {
+    let d = decode_routine(image, lengths, begins, r, cells);
+    if d.number != 0 {
         return Checked {
-            refusal: d.refusal,
+            refusal: d.number,
             at: d.at,
             need: 0,
             count: 0,
         };
     }
+    let needs = s.needs;
     check_flow(
         r.start,
         r.end,
-        &*starts,
-        &*falls,
-        &*jumps,
-        &*pops,
-        &*pushes,
-        &*stores,
-        &*calls,
-        needs,
-        counted,
+        &*cells,
+        &needs,
+        s.count,
         depths,
         stack,
         marks,
@@ -167,46 +135,28 @@ pub(crate) fn sweep_routines(
     image: &[u8],
     limits: Limits,
     layout: Layout,
-    plain: &[u8; 256],
-    after_72: &[u8; 256],
-    after_90: &[u8; 256],
+    lengths: &[[u8; 256]; 3],
     begins: &[u16; 32],
     marks: &mut [u16],
 ) -> Sweep
-    requires { ⌜ (validated (now image) limits ≡ Valid layout) × Tables (now plain) (now after_72) (now after_90)
+    requires { ⌜ (validated (now image) limits ≡ Valid layout) × (now lengths ≡ lengthsFor (versionOf (now image)))
         × Begins (now image) (now begins) (layout .count) × (now marks ≡ replicate (sizeOf (now image)) 0) ⌝ }
     ensures { λ r. ⌜ Swept (now (image .entry)) limits r (now (marks .exit)) ⌝ }
     ensures { λ r. ⌜ Small r ⌝ }
 {
-    let mut starts = [0u8; 4096];
-    let mut falls = [0u16; 4096];
-    let mut jumps = [0u16; 4096];
-    let mut pops = [0u8; 4096];
-    let mut pushes = [0u8; 4096];
-    let mut stores = [0u16; 4096];
-    let mut calls = [0u8; 4096];
+    let mut cells = [[0u16; 7]; 4096];
     let mut depths = [0u32; 4096];
     let mut stack = [0u16; 4096];
     let mut s = begun();
     while s.index < layout.count {
         let r = routine_at(image, limits, layout, s.index, s.at);
-        let needs = s.needs;
         let x = check_routine(
             image,
-            r,
-            plain,
-            after_72,
-            after_90,
+            lengths,
             begins,
-            &needs,
-            s.count,
-            &mut starts,
-            &mut falls,
-            &mut jumps,
-            &mut pops,
-            &mut pushes,
-            &mut stores,
-            &mut calls,
+            r,
+            s,
+            &mut cells,
             &mut depths,
             &mut stack,
             marks,

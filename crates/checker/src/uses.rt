@@ -24,7 +24,7 @@ fn call_use(depth: usize, call: usize, needs: &[u16; 32]) -> usize
 }
 
 // The stack bytes that an instruction has the routine use.
-pub(crate) fn used(depth: usize, pops: u8, pushes: u8, call: u8, needs: &[u16; 32]) -> usize
+pub(crate) fn used(depth: usize, pops: u16, pushes: u16, call: u16, needs: &[u16; 32]) -> usize
     requires { ⌜ (depth ≤ 65535) × (call ≤ 32) × (pops ≤ depth + pushes) ⌝ }
     ensures { λ r. ⌜ r ≡ greatestUse depth pops pushes call (now (needs .entry)) ⌝ }
 {

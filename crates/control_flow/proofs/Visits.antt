@@ -132,7 +132,7 @@ abbrev pub from : ℕ → Graph → Graph
 from o g = record { entry = o; falls = g .falls; jumps = g .jumps; pops = g .pops; pushes = g .pushes }
 
 -- what a visit by the code asks
-pub ready : {g : Graph} {before depths stack : List ℕ} {height : ℕ} {agree : Bool} → Exploring middle 255 g before Nothing depths stack height agree →
+pub ready : {g : Graph} {before depths stack : List ℕ} {height : ℕ} {agree : Bool} → Exploring middle 65535 g before Nothing depths stack height agree →
     ((x : ℕ) → Reached g x → x < 4096) → 1 ≤ height → (o : ℕ) → getD stack (height - 1) 0 ≡ o → Ready (from o g) depths (height - 1) o
 ready s inside some o top =
     let range = in-range s inside some o top in

@@ -9,10 +9,10 @@ use Rattle.control_flow.specs.Graph.{Graph, Reached, Path, Disagree}
 use Rattle.control_flow.specs.Routine.{Routine, Start, Decoded}
 use Rattle.control_flow.specs.Outcome.{First, Passes}
 
--- A depth is held as depth + 2^20 in 32 bits. A path that passes no offset twice has a depth of less than 4,096 · 255 < 2^20 either way, so what is
+-- A depth is held as depth + 2^29 in 32 bits. A path that passes no offset twice has a depth of less than 4,096 · 65,535 < 2^28 either way, so what is
 -- held is never 0, and 0 alone means not reached.
 abbrev pub middle : ℕ
-middle = 1048576
+middle = 536870912
 
 -- the depth at an offset is known
 abbrev pub Known : List ℕ → ℕ → Type 0
@@ -46,7 +46,7 @@ pub record Ready (g : Graph) (depths : List ℕ) (height o : ℕ) : Type 0 where
   pub inside : o < 4096
   pub fall : g .falls o ≤ 4096
   pub jump : g .jumps o ≤ 4096
-  pub low : 256 ≤ getD depths o 0
+  pub low : 65536 ≤ getD depths o 0
   pub high : getD depths o 0 ≤ 4000000000
 
 -- one visit of offset o: both of its edges are followed, with the depth after it

@@ -2,7 +2,7 @@
 -- Nobody has to believe what stands in this crate: acceptance ties it to the rules.
 use Prim.Native.Nat.{ℕ, _+_}
 use mathlib.Core.Path.{_≡_}
-use mathlib.Core.List.{List}
+use mathlib.Core.List.{List, []}
 use lib.ListN.{getD}
 
 -- Each cell belongs to the instruction at a code offset. `falls` and `jumps` are 1 + the offset that control goes to, or 0 where it does not go on
@@ -18,9 +18,13 @@ pub record Graph : Type 0 where
 abbrev pub cells : List ℕ → ℕ → ℕ
 cells list o = getD list o 0
 
-abbrev pub graph : ℕ → List ℕ → List ℕ → List ℕ → List ℕ → Graph
-graph entry falls jumps pops pushes =
-    record { entry = entry; falls = cells falls; jumps = cells jumps; pops = cells pops; pushes = cells pushes }
+-- the cells of a column, where each offset has a row of them: start, fall, jump, pops, pushes, store, call
+abbrev pub column : ℕ → List (List ℕ) → ℕ → ℕ
+column k rows o = getD (getD rows o []) k 0
+
+abbrev pub graph : ℕ → List (List ℕ) → Graph
+graph entry rows =
+    record { entry = entry; falls = column 1 rows; jumps = column 2 rows; pops = column 3 rows; pushes = column 4 rows }
 
 -- control goes from one offset to another
 pub data Edge (g : Graph) (o to : ℕ) : Type 0 where

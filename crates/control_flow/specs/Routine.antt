@@ -8,7 +8,7 @@ use lib.ListN.{getD}
 use Rattle.numbers.specs.Bits.{flag}
 use Rattle.numbers.specs.Checks.{both, under, differ}
 use Rattle.numbers.specs.Folds.{firstIn}
-use Rattle.control_flow.specs.Graph.{Graph, graph, cells, Edge}
+use Rattle.control_flow.specs.Graph.{Graph, graph, column, Edge}
 
 -- Beside its graph: the offset past its last byte; whether an instruction begins at an offset (not 0); the least depth at which the instruction's
 -- store is allowed (above 255: at none); and 1 + the callee's place in the table (0: no call; above 32: the call goes to no earlier routine).
@@ -19,15 +19,9 @@ pub record Routine : Type 0 where
   pub stores : ℕ → ℕ
   pub calls : ℕ → ℕ
 
-abbrev pub routine : ℕ → ℕ → List ℕ → List ℕ → List ℕ → List ℕ → List ℕ → List ℕ → List ℕ → Routine
-routine entry end starts falls jumps pops pushes stores calls =
-    record {
-      graph = graph entry falls jumps pops pushes;
-      end = end;
-      starts = cells starts;
-      stores = cells stores;
-      calls = cells calls;
-    }
+abbrev pub routine : ℕ → ℕ → List (List ℕ) → Routine
+routine entry end rows =
+    record { graph = graph entry rows; end = end; starts = column 0 rows; stores = column 5 rows; calls = column 6 rows }
 
 -- offset o is a start of the routine
 pub record Start (x : Routine) (o : ℕ) : Type 0 where

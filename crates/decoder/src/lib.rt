@@ -1,6 +1,6 @@
 // Decoding: the instruction at the front of a slice, an op-code outside the set, or bytes that end too soon.
 ghost use mathlib.Core.Path.{_≡_};
-ghost use Rattle.stm8.specs.Decoding.{decoded, decodedBy, tables, decodingNumber};
+ghost use Rattle.stm8.specs.Decoding.{decoded, decodedBy, decodingNumber};
 
 mod columns;
 mod operations;
@@ -10,25 +10,21 @@ mod rows;
 mod shared;
 
 use numbers::words::byte_at;
+pub use pages::opcode_length;
 use stm8::Decoded;
 
-// By a table of lengths for each page. Whoever decodes much asks for the tables once and lends them.
-pub fn decode_by(
-    bytes: &[u8],
-    plain: &[u8; 256],
-    after_72: &[u8; 256],
-    after_90: &[u8; 256],
-) -> Decoded
-    ensures { λ r. ⌜ r ≡ decodedBy (tables (now (plain .entry)) (now (after_72 .entry)) (now (after_90 .entry))) (now (bytes .entry)) ⌝ }
+// By three tables of lengths, one for each page. Whoever decodes much asks for the tables once and lends them.
+pub fn decode_by(bytes: &[u8], lengths: &[[u8; 256]; 3]) -> Decoded
+    ensures { λ r. ⌜ r ≡ decodedBy (now (lengths .entry)) (now (bytes .entry)) ⌝ }
 {
     let first = byte_at(bytes, 0);
     if first == 0x72 {
-        return pages::after_72(bytes, after_72);
+        return pages::after_72(bytes, &lengths[1]);
     }
     if first == 0x90 {
-        return pages::after_90(bytes, after_90);
+        return pages::after_90(bytes, &lengths[2]);
     }
-    pages::plain(bytes, plain)
+    pages::plain(bytes, &lengths[0])
 }
 
 // By the map's own lengths: only the page that the first byte selects has its table built.

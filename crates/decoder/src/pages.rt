@@ -136,8 +136,8 @@ fn wide(length: u8) -> usize
     length as usize
 }
 
-// The length that a table has for an op-code.
-fn table_length(op: u8, lengths: &[u8; 256]) -> usize
+// The length of an op-code with its operands, by its page's table: whoever has an op-code without its operands asks for it too.
+pub fn opcode_length(op: u8, lengths: &[u8; 256]) -> usize
     ensures { λ r. ⌜ r ≡ getD (now (lengths .entry)) op 0 ⌝ }
 {
     wide(lengths[op as usize])
@@ -151,7 +151,7 @@ pub fn plain(bytes: &[u8], lengths: &[u8; 256]) -> Decoded
         return Decoded::Truncated;
     }
     let op = byte_at(bytes, 0);
-    let length = table_length(op, lengths);
+    let length = opcode_length(op, lengths);
     if length == 0 {
         return Decoded::Outside;
     }
@@ -176,7 +176,7 @@ pub fn after_72(bytes: &[u8], lengths: &[u8; 256]) -> Decoded
         return Decoded::Truncated;
     }
     let op = byte_at(bytes, 1);
-    let length = table_length(op, lengths);
+    let length = opcode_length(op, lengths);
     if length == 0 {
         return Decoded::Outside;
     }
@@ -200,7 +200,7 @@ pub fn after_90(bytes: &[u8], lengths: &[u8; 256]) -> Decoded
         return Decoded::Truncated;
     }
     let op = byte_at(bytes, 1);
-    let length = table_length(op, lengths);
+    let length = opcode_length(op, lengths);
     if length == 0 {
         return Decoded::Outside;
     }

@@ -8,6 +8,7 @@ use lib.Dec.{ltb}
 use lib.ListN.{length, getD, drop}
 use Rattle.numbers.specs.Ascii.{ascii}
 use Rattle.numbers.specs.Words.{high, low}
+use Rattle.stm8.specs.Effects.{relative}
 use Rattle.stm8.specs.Encoding.{bytesOf}
 use Rattle.stm8.specs.IndexRegisters.{otherOf}
 use Rattle.stm8.specs.declared.Register.{Register}
@@ -78,13 +79,9 @@ operands (x ∷ xs) = ascii " " ++ x ++ furtherOperands xs
 abbrev pub line : List ℕ → List (List ℕ) → List ℕ
 line name xs = name ++ operands xs
 
--- an offset of -128 to 127 as a word
-unfoldable pub extended : ℕ → ℕ
-extended n = cond (ltb n 128) n (0xff00 + n)
-
--- the target of a relative jump or call: its offset counts from the address of the next instruction
+-- the four digits of where a relative jump or call goes: taken modulo 10000, below 0 too
 unfoldable pub target : ℕ → ℕ → ℕ
-target next n = (next + extended n) % 0x10000
+target next n = relative (0x10000 + next) n % 0x10000
 
 -- the text of an instruction that the address `next` follows. One outside the set, which document 01 leaves free, has its text by the same rules.
 abbrev pub textBefore : ℕ → Instruction → List ℕ

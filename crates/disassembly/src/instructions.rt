@@ -3,31 +3,21 @@ ghost use mathlib.Core.Path.{_≡_};
 ghost use mathlib.Core.Bool.{cond};
 ghost use Prim.Native.Nat.{_+_};
 ghost use lib.Dec.{leb};
-ghost use Rattle.disassembly.specs.Notation.{extended as extendedOf, target as targetOf, text};
+ghost use Rattle.disassembly.specs.Notation.{target as targetOf, text};
 ghost use Rattle.disassembly.specs.Writing.{blank, wrote};
 use crate::names;
 use crate::writing::Text;
 use crate::writing::named;
+use effects::relative;
 use stm8::Instruction;
 use stm8::Operand;
-
-// An offset as a word.
-fn extended(n: u8) -> u16
-    ensures { λ r. ⌜ r ≡ extendedOf n ⌝ }
-{
-    if n < 128 {
-        n as u16
-    } else {
-        0xff00 + (n as u16)
-    }
-}
 
 // The target of a jump of so many bytes at an address.
 fn target(address: u16, length: u8, n: u8) -> u16
     ensures { λ r. ⌜ r ≡ targetOf (address + length) n ⌝ }
 {
-    let sum = (address as u32) + (length as u32) + (extended(n) as u32);
-    (sum % 0x10000) as u16
+    let next = 0x10000 + address as u32 + length as u32;
+    (relative(next, n) % 0x10000) as u16
 }
 
 // The length of BTJT and BTJF; with a bit position over 7 there is no such instruction.

@@ -10,3 +10,4 @@ pub mod Starting
 pub mod MainPlace
 pub mod Guarantee
 pub mod Sample
+pub mod SampleRun

@@ -16,14 +16,15 @@ use Rattle.numbers.specs.Words as Words
 use Rattle.numbers.specs.Folds as Folds
 use Rattle.numbers.specs.Lists as Lists
 use Rattle.numbers.proofs.Checking.{by-cond}
-use Rattle.stm8.specs.Decoding.{decoded}
-use Rattle.stm8.specs.Effects.{relative}
+use Rattle.stm8.specs.Effects.{relative, jumpTarget, callTarget}
 use Rattle.image.specs.Image as Image
 use Rattle.image.specs.Validation as Validation
 use Rattle.image.specs.Access.{granted}
 use Rattle.image.specs.declared.Limits.{Limits}
-use Rattle.rules.specs.Depth as Depth
-use Rattle.rules.specs.Code as Code
+use Rattle.code.specs.Set as Set
+use Rattle.code.specs.Code as Code
+use Rattle.code.specs.Depth as Depth
+use Rattle.code.specs.Instructions as Instructions
 use Rattle.control_flow.specs.Routine as Routine
 use Rattle.control_flow.specs.Measuring as Measuring
 use Rattle.acceptance.specs.Cells as Cells
@@ -47,12 +48,13 @@ limits = record { grant = record { low = 0x0000; high = 0x00FF }; stack = record
 
 sample-accepted : Check.checked sample limits (replicate 14 0) .0 ≡ Accepted 5 9
 unfolding Check.checked Folds.firstIn Folds.total Checks.first Checks.both Checks.under Checks.unless Checks.differ Lists.same Words.word
-    Words.wordAt decoded relative granted Image.versionOf Image.baseOf Image.countOf Image.lengthsOf Image.lengthAt Image.codeAt
-    Image.codeOf Image.sizeOf Image.layoutOf Image.startOf Image.endOf Image.mainOf Validation.areaCheck Validation.apartCheck
+    Words.wordAt relative jumpTarget callTarget granted Image.versionOf Image.baseOf Image.countOf Image.lengthsOf Image.lengthAt Image.codeAt
+    Image.codeOf Image.sizeOf Image.layoutOf Image.startOf Image.endOf Image.mainOf Validation.areaCheck Validation.apart
     Validation.limitsCheck Validation.markCheck Validation.versionCheck Validation.lengthCheck Validation.lengthsCheck
-    Validation.layoutCheck Validation.refusal Validation.validated Depth.popped Depth.pushed Code.instructionAt Routine.jumpNumber
+    Validation.headerCheck Validation.layoutCheck Validation.refusal Validation.validated Set.decodedFor Code.decodedAt
+    Depth.popped Depth.pushed Routine.jumpNumber
     Routine.depthNumber Routine.countFrom Measuring.callUse Measuring.greatestUse Cells.targetCell Cells.storeCell Cells.beginning
-    Cells.callee Cells.calleeCell Starts.startsFrom Starts.startsOf Starts.listed Exploration.exploreFrom Exploration.mostMoved
+    Cells.callee Cells.calleeCell Instructions.startsFrom Instructions.startsOf Starts.listed Exploration.exploreFrom Exploration.mostMoved
     Exploration.biasFor Exploration.explored Check.firstAt Check.biasOf Check.exploredIn Check.flowRefusing Check.routineRefusing
     Check.routinesFrom Check.swept Check.codeChecked
 sample-accepted = refl
@@ -68,7 +70,7 @@ bytes-below (b ∷ rest) e zero = by-cond (ltb b 256) (λ t u. ltb-true b 256 t)
 bytes-below (b ∷ rest) e (suc k) = by-cond (ltb b 256) (λ t u. bytes-below rest u k) (λ t u. absurd (false≢true u)) e
 
 module _ (memory : List ℕ) (size : length memory ≡ 32768) (a x y cc : ℕ) where
-  sample-started : started sample limits (replicate 14 0) memory a x y cc .started .verdict ≡ Accepted 5 9
+  pub sample-started : started sample limits (replicate 14 0) memory a x y cc .started .verdict ≡ Accepted 5 9
   unfolding started
   sample-started = rw (eq-eqb (length memory) 32768 size, sample-accepted)
 

@@ -13,8 +13,8 @@ use Rattle.image.specs.Access.{Granted}
 use Rattle.image.specs.Validation.{refusal}
 use Rattle.machine.specs.declared.StepAnswer.the-variants as Step
 use Rattle.machine.specs.declared.RunAnswer.the-variants as Run
-use Rattle.rules.specs.Code.{Start}
-use Rattle.gate.specs.History.{Given, Request, givenTo, Answer, started, steppedTo, ranTo, Moment}
+use Rattle.code.specs.Code.{Start}
+use Rattle.gate.specs.History.{Given, Request, givenTo, Answer, initial, steppedTo, ranTo, Moment}
 
 -- every element of a list
 abbrev pub All : {A : Type 0} → (A → Type 0) → List A → Type 0
@@ -23,7 +23,7 @@ All P (x ∷ xs) = P x × All P xs
 
 -- no step or run has trapped
 abbrev pub Untrapped : Answer → Type 0
-Untrapped started = Unit {0}
+Untrapped initial = Unit {0}
 Untrapped (steppedTo Step.Made) = Unit {0}
 Untrapped (steppedTo Step.Finished) = Unit {0}
 Untrapped (steppedTo (Step.Trap number)) = ⊥

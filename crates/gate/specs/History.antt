@@ -4,15 +4,14 @@ use mathlib.Core.Bool.{Bool, true, false, cond}
 use mathlib.Core.List.{List, [], _∷_, _++_}
 use mathlib.Core.Option.{Option, none, some}
 use lib.Dec.{eqb}
-use lib.ListN.{drop}
-use Rattle.stm8.specs.Decoding.{decoded}
 use Rattle.stm8.specs.Effects.{effect}
 use Rattle.stm8.specs.declared.Flow.{Flow}
 use Rattle.stm8.specs.declared.Flow.the-variants.{Next, Branch, Jump, Call, CallRelative, Return}
 use Rattle.stm8.specs.declared.Decoded.{Decoded}
 use Rattle.stm8.specs.declared.Decoded.the-variants.{Found, Outside, Truncated}
 use Rattle.image.specs.declared.Limits.{Limits}
-use Rattle.image.specs.Image.{baseOf, codeOf}
+use Rattle.image.specs.Image.{baseOf}
+use Rattle.code.specs.Code.{instructionIn}
 use Rattle.machine.specs.Step.{pcTrap, stepRefusal, stepped}
 use Rattle.machine.specs.Run.{ran}
 use Rattle.machine.specs.declared.Registers.{Registers}
@@ -88,16 +87,16 @@ fedTo g s =
     let pc = s .registers .pc in
     cond (eqb (stepRefusal (g .image) (g .limits) (s .memory)) 0)
     (cond (eqb pc 0) nothing
-    (cond (eqb (pcTrap (g .image) pc) 0) (flowIn pc (decoded (drop (pc - baseOf (g .image)) (codeOf (g .image))))) nothing))
+    (cond (eqb (pcTrap (g .image) pc) 0) (flowIn pc (instructionIn (g .image) (pc - baseOf (g .image)))) nothing))
     nothing
 
 abbrev pub fed : Fed → Book → Book
 fed nothing book = book
 fed (flow f next) book = fedFlow f next book
 
-abbrev pub owed : Fed → Book → Option ℕ
-owed nothing book = none
-owed (flow f next) book = owedFlow f book
+abbrev pub owedBy : Fed → Book → Option ℕ
+owedBy nothing book = none
+owedBy (flow f next) book = owedFlow f book
 
 -- how far a list has come
 pub record Point : Type 0 where
@@ -108,9 +107,9 @@ pub record Point : Type 0 where
 abbrev pub pointStarted : Result → Point
 pointStarted s = record { state = record { registers = s .started .registers; memory = s .memory }; book = emptyBook }
 
--- what the start, a step or a run answered
+-- what a step or a run answered; at the point that a list begins with there is no answer yet
 pub data Answer : Type 0 where
-  started : Answer
+  initial : Answer
   steppedTo : StepAnswer → Answer
   ranTo : RunAnswer → Answer
 
@@ -132,7 +131,7 @@ abbrev pub momentAfter : Given → Point → Moment
 momentAfter g p =
     record {
       answer = steppedTo (stepped (g .image) (g .limits) (p .state .registers) (p .state .memory) .0 .answer);
-      owed = owed (fedTo g (p .state)) (p .book);
+      owed = owedBy (fedTo g (p .state)) (p .book);
       point = pointAfter g p;
     }
 
@@ -169,7 +168,7 @@ historyFrom (c ∷ calls) p = momentsOf c p ++ historyFrom calls (pointOf c p)
 
 -- with the point itself as its first state
 abbrev pub history : List Request → Point → List Moment
-history calls p = record { answer = started; owed = none; point = p } ∷ historyFrom calls p
+history calls p = record { answer = initial; owed = none; point = p } ∷ historyFrom calls p
 
 -- how many states a call has: a step one, a run one for each step that it makes and one for its end; and a list of calls, all that they have
 abbrev pub statesOf : Request → Point → ℕ

@@ -1,3 +1,4 @@
 pub mod Start
 pub mod History
 pub mod Guarantee
+pub mod GoodPoint

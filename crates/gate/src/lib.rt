@@ -4,12 +4,14 @@ ghost use Prim.Native.Nat.{_+_, _≤_, _<_};
 ghost use lib.ListN.{length};
 ghost use Rattle.image.specs.Image.{baseOf, startOf, mainOf};
 ghost use Rattle.image.specs.Rules.{ImageRules};
+ghost use Rattle.rules.specs.Outcome.{VerdictNumbered};
 ghost use Rattle.gate.specs.Start.{started, zeros, begun, cleared};
 pub use checker::Verdict;
 pub use checker::check;
 pub use image::Area;
 pub use image::Limits;
 use image::base_of;
+use image::code_at;
 use image::count_of;
 use image::routine_length;
 pub use machine::Ran;
@@ -18,7 +20,9 @@ pub use machine::RunAnswer;
 pub use machine::StepAnswer;
 pub use machine::Stepped;
 pub use machine::run;
+pub use machine::run_number;
 pub use machine::step;
+pub use machine::step_number;
 
 // What starting answers: the check's verdict, or 17, and the registers to go on from, all 0 where it is refused.
 pub struct Started {
@@ -47,9 +51,10 @@ fn main_address(image: &[u8]) -> u32
     ensures { λ r. ⌜ r ≡ baseOf (now (image .entry)) + startOf (now (image .entry)) (mainOf (now (image .entry))) ⌝ }
 {
     let base = base_of(image) as usize;
+    let code = code_at(image);
     let count = count_of(image) as usize;
     let main = routine_length(image, count - 1) as usize;
-    (base + image.len() - 8 - 2 * count - main) as u32
+    (base + image.len() - code - main) as u32
 }
 
 // 00 to the top two stack bytes, SP two below stack high and PC at main.
@@ -94,6 +99,7 @@ pub fn start(
 ) -> Started
     ensures { λ r. ⌜ started (now (image .entry)) limits (now (marks .entry)) (now (memory .entry)) a x y cc ≡
         record { started = r; marks = now (marks .exit); memory = now (memory .exit) } ⌝ }
+    ensures { λ r. ⌜ VerdictNumbered 17 (r .verdict) ⌝ }
 {
     if memory.len() != 32768 {
         return refused(Verdict::Refused(17, 0));

@@ -1,50 +1,66 @@
 -- From what a call of the gate answers to the cells that C reads.
-use Prim.Native.Nat.{ℕ}
+use Prim.Native.Nat.{ℕ, _<_}
 use mathlib.Core.Path.{_≡_, refl}
 use mathlib.Core.List.{List, [], _∷_}
+use native.Mathlib.Nat.{mod-eq-of-lt}
 use Rattle.image.specs.declared.Limits.{Limits}
-use Rattle.rules.specs.Outcome.{numberOf}
+use Rattle.rules.specs.Outcome.{valuesOf}
 use Rattle.acceptance.specs.Check.{checked}
 use Rattle.rules.specs.declared.Verdict.{Verdict}
-use Rattle.machine.specs.Step.{stepped}
-use Rattle.machine.specs.Run.{ran}
+use Rattle.machine.specs.Step.{stepped, stepNumber}
+use Rattle.machine.specs.Run.{ran, runNumber}
 use Rattle.machine.specs.declared.Registers.{Registers}
 use Rattle.machine.specs.declared.Stepped.{Stepped}
 use Rattle.machine.specs.declared.Ran.{Ran}
-use Rattle.gate.specs.Start.{started}
 use Rattle.gate.specs.declared.Started.{Started}
-use Rattle.gate_c.specs.Cells.{reportCells, registersIn, registerCells, stepCode, runCode, startedCells, steppedCells, ranCells}
+use Rattle.gate_c.specs.Cells.{reportCells, registersIn, registerCells, startedBy, startedCells, steppedCells, ranCells}
 
 pub checked-by : (image marks marks′ : List ℕ) (limits limits′ : Limits) (v : Verdict) (number : ℕ) (report : List ℕ) →
-    limits ≡ limits′ → checked image limits marks ≡ (v, marks′) → number ≡ numberOf v → report ≡ reportCells v →
-    (number ≡ numberOf (checked image limits′ marks .0)) ×
+    limits ≡ limits′ → checked image limits marks ≡ (v, marks′) → number ≡ valuesOf v .number → report ≡ reportCells v →
+    (number ≡ valuesOf (checked image limits′ marks .0) .number) ×
     ((report ≡ reportCells (checked image limits′ marks .0)) × (marks′ ≡ checked image limits′ marks .1))
 checked-by image marks marks′ limits limits′ v number report same c n r = rw (← same, c) (n, (r, refl))
 
+-- registers of their widths; PC is read by all bits of its cell
+pub record Fitting (r : Registers) : Type 0 where
+  pub a : r .a < 256
+  pub x : r .x < 65536
+  pub y : r .y < 65536
+  pub cc : r .cc < 256
+  pub sp : r .sp < 65536
+
+-- are read back from their cells as they were
+pub read-back : (r : Registers) → Fitting r → registersIn (registerCells r) ≡ r
+read-back r fit =
+    rw (mod-eq-of-lt (fit .a), mod-eq-of-lt (fit .x), mod-eq-of-lt (fit .y), mod-eq-of-lt (fit .cc), mod-eq-of-lt (fit .sp))
+
 pub started-by : (image marks marks′ memory memory′ cells : List ℕ) (limits limits′ : Limits) (given : Registers) (s : Started)
     (number : ℕ) (report out : List ℕ) → limits ≡ limits′ → given ≡ registersIn cells →
-    started image limits marks memory (given .a) (given .x) (given .y) (given .cc) ≡ record { started = s; marks = marks′; memory = memory′ } →
-    number ≡ numberOf (s .verdict) → report ≡ reportCells (s .verdict) → out ≡ registerCells (s .registers) →
-    startedCells image limits′ marks memory cells ≡ record { number = number; report = report; registers = out; marks = marks′; memory = memory′ }
+    startedBy image limits marks memory given ≡ record { started = s; marks = marks′; memory = memory′ } →
+    number ≡ valuesOf (s .verdict) .number → report ≡ reportCells (s .verdict) → (out ≡ registerCells (s .registers)) × (registersIn out ≡ s .registers) →
+    (startedCells image limits′ marks memory cells ≡ record { number = number; report = report; registers = out; marks = marks′; memory = memory′ })
+    × (registersIn out ≡ startedBy image limits′ marks memory (registersIn cells) .started .registers)
 unfolding startedCells
 started-by image marks marks′ memory memory′ cells limits limits′ given s number report out same-limits same-registers e n r o =
     let by-cells = rw (same-limits, same-registers) at e in
-    rw (by-cells, n, r, o)
+    (rw (by-cells, n, r, o .0), rw by-cells (o .1))
 
 pub stepped-by : (image memory memory′ cells : List ℕ) (limits limits′ : Limits) (given : Registers) (s : Stepped) (number : ℕ) (out : List ℕ) →
     limits ≡ limits′ → given ≡ registersIn cells → stepped image limits given memory ≡ (s, memory′) →
-    number ≡ stepCode (s .answer) → out ≡ registerCells (s .registers) →
-    steppedCells image limits′ cells memory ≡ record { number = number; registers = out; memory = memory′ }
+    number ≡ stepNumber (s .answer) → (out ≡ registerCells (s .registers)) × (registersIn out ≡ s .registers) →
+    (steppedCells image limits′ cells memory ≡ record { number = number; registers = out; memory = memory′ })
+    × (registersIn out ≡ stepped image limits′ (registersIn cells) memory .0 .registers)
 unfolding steppedCells
 stepped-by image memory memory′ cells limits limits′ given s number out same-limits same-registers e n o =
     let by-cells = rw (same-limits, same-registers) at e in
-    rw (by-cells, n, o)
+    (rw (by-cells, n, o .0), rw by-cells (o .1))
 
-pub ran-by : (budget : ℕ) (image memory memory′ cells : List ℕ) (limits limits′ : Limits) (given : Registers) (r : Ran) (number : ℕ)
-    (out steps : List ℕ) → limits ≡ limits′ → given ≡ registersIn cells → ran budget image limits given memory ≡ (r, memory′) →
-    number ≡ runCode (r .answer) → out ≡ registerCells (r .registers) → steps ≡ r .steps ∷ [] →
-    ranCells budget image limits′ cells memory ≡ record { number = number; registers = out; steps = steps; memory = memory′ }
+pub ran-by : (budget : ℕ) (image memory memory′ cells : List ℕ) (limits limits′ : Limits) (given : Registers) (r : Ran) (number : ℕ) (out steps : List ℕ) →
+    limits ≡ limits′ → given ≡ registersIn cells → ran budget image limits given memory ≡ (r, memory′) →
+    number ≡ runNumber (r .answer) → (out ≡ registerCells (r .registers)) × (registersIn out ≡ r .registers) → steps ≡ r .steps ∷ [] →
+    (ranCells budget image limits′ cells memory ≡ record { number = number; registers = out; steps = steps; memory = memory′ })
+    × (registersIn out ≡ ran budget image limits′ (registersIn cells) memory .0 .registers)
 unfolding ranCells
 ran-by budget image memory memory′ cells limits limits′ given r number out steps same-limits same-registers e n o s =
     let by-cells = rw (same-limits, same-registers) at e in
-    rw (by-cells, n, o, s)
+    (rw (by-cells, n, o .0, s), rw by-cells (o .1))

@@ -3,16 +3,12 @@ use Prim.Native.Nat.{ℕ, _%_}
 use mathlib.Core.List.{List, [], _∷_, _++_}
 use lib.ListN.{length, getD, drop, replicate}
 use Rattle.image.specs.declared.Limits.{Limits}
-use Rattle.rules.specs.Outcome.{numberOf, offsetOf, needOf, startsOf}
+use Rattle.rules.specs.Outcome.{valuesOf}
 use Rattle.rules.specs.declared.Verdict.{Verdict}
 use Rattle.machine.specs.Step.{stepped, stepNumber}
 use Rattle.machine.specs.Run.{ran, runNumber}
-use Rattle.gate.specs.Start.{started}
+use Rattle.gate.specs.Start.{Result, started}
 use Rattle.machine.specs.declared.Registers.{Registers}
-use Rattle.machine.specs.declared.StepAnswer.{StepAnswer}
-use Rattle.machine.specs.declared.StepAnswer.the-variants as Step
-use Rattle.machine.specs.declared.RunAnswer.{RunAnswer}
-use Rattle.machine.specs.declared.RunAnswer.the-variants.{Finished, Spent, Trap, Refused}
 use Rattle.stm8.specs.declared.Instruction.{Instruction}
 use Rattle.stm8.specs.declared.Decoded.{Decoded}
 use Rattle.stm8.specs.declared.Decoded.the-variants.{Found, Outside, Truncated}
@@ -25,7 +21,7 @@ limitsBy grantLow grantHigh stackLow stackHigh =
 
 -- a report: offset, need and count
 abbrev pub reportCells : Verdict → List ℕ
-reportCells v = offsetOf v ∷ needOf v ∷ startsOf v ∷ []
+reportCells v = valuesOf v .offset ∷ valuesOf v .need ∷ valuesOf v .count ∷ []
 
 -- A, X, Y, CC, SP and PC, each by as many low bits as the register has (PC by all 32)
 abbrev pub registersIn : List ℕ → Registers
@@ -41,19 +37,6 @@ registersIn cells =
 
 abbrev pub registerCells : Registers → List ℕ
 registerCells r = r .a ∷ r .x ∷ r .y ∷ r .cc ∷ r .sp ∷ r .pc ∷ []
-
--- an answer: 64 finished, 65 spent, else document 01's number
-abbrev pub stepCode : StepAnswer → ℕ
-stepCode Step.Made = stepNumber Step.Made
-stepCode Step.Finished = 64
-stepCode (Step.Trap number) = stepNumber (Step.Trap number)
-stepCode (Step.Refused number) = stepNumber (Step.Refused number)
-
-abbrev pub runCode : RunAnswer → ℕ
-runCode Finished = 64
-runCode Spent = 65
-runCode (Trap number) = runNumber (Trap number)
-runCode (Refused number) = runNumber (Refused number)
 
 -- the length of what was decoded, and its text at an address, with 0 in every cell after it
 abbrev pub decodedLength : Decoded → ℕ
@@ -78,12 +61,14 @@ pub record StartCells : Type 0 where
   pub memory : List ℕ
 
 -- starting, with the caller's A, X, Y and CC
+abbrev pub startedBy : List ℕ → Limits → List ℕ → List ℕ → Registers → Result
+startedBy image limits marks memory given = started image limits marks memory (given .a) (given .x) (given .y) (given .cc)
+
 unfoldable pub startedCells : List ℕ → Limits → List ℕ → List ℕ → List ℕ → StartCells
 startedCells image limits marks memory cells =
-    let given = registersIn cells in
-    let s = started image limits marks memory (given .a) (given .x) (given .y) (given .cc) in
+    let s = startedBy image limits marks memory (registersIn cells) in
     record {
-      number = numberOf (s .started .verdict);
+      number = valuesOf (s .started .verdict) .number;
       report = reportCells (s .started .verdict);
       registers = registerCells (s .started .registers);
       marks = s .marks;
@@ -98,7 +83,7 @@ pub record StepCells : Type 0 where
 unfoldable pub steppedCells : List ℕ → Limits → List ℕ → List ℕ → StepCells
 steppedCells image limits cells memory =
     let s = stepped image limits (registersIn cells) memory in
-    record { number = stepCode (s .0 .answer); registers = registerCells (s .0 .registers); memory = s .1 }
+    record { number = stepNumber (s .0 .answer); registers = registerCells (s .0 .registers); memory = s .1 }
 
 pub record RunCells : Type 0 where
   pub number : ℕ
@@ -109,4 +94,4 @@ pub record RunCells : Type 0 where
 unfoldable pub ranCells : ℕ → List ℕ → Limits → List ℕ → List ℕ → RunCells
 ranCells budget image limits cells memory =
     let r = ran budget image limits (registersIn cells) memory in
-    record { number = runCode (r .0 .answer); registers = registerCells (r .0 .registers); steps = r .0 .steps ∷ []; memory = r .1 }
+    record { number = runNumber (r .0 .answer); registers = registerCells (r .0 .registers); steps = r .0 .steps ∷ []; memory = r .1 }

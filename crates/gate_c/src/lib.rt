@@ -1,24 +1,27 @@
 // The gate for callers in C: numbers, slices and fixed arrays alone. include/gate.h has the declarations.
 ghost use mathlib.Core.Path.{_≡_};
-ghost use Rattle.rules.specs.Outcome.{numberOf};
+ghost use Rattle.rules.specs.Outcome.{valuesOf};
 ghost use Rattle.acceptance.specs.Check.{checked};
+ghost use Rattle.machine.specs.Step.{stepped};
+ghost use Rattle.machine.specs.Run.{ran};
 ghost use Rattle.stm8.specs.Decoding.{decoded, decodingNumber};
 ghost use mathlib.Core.List.{[], _∷_};
-ghost use Rattle.gate_c.specs.Cells.{limitsBy, registersIn, registerCells, reportCells, stepCode, runCode};
-ghost use Rattle.gate_c.specs.Cells.{decodedLength, instructionText, textCells, startedCells, steppedCells, ranCells};
+ghost use Rattle.gate_c.specs.Cells.{limitsBy, registersIn, registerCells, reportCells};
+ghost use Rattle.gate_c.specs.Cells.{decodedLength, instructionText, textCells, startedBy, startedCells, steppedCells, ranCells};
 use decoder::decode;
 use decoder::decoding_number;
 use disassembly::disassemble;
 use gate::Area;
 use gate::Limits;
 use gate::Registers;
-use gate::RunAnswer;
-use gate::StepAnswer;
 use gate::Verdict;
 use gate::check;
 use gate::run;
+use gate::run_number;
 use gate::start;
 use gate::step;
+use gate::step_number;
+use rules::verdict_number;
 use stm8::Decoded;
 use stm8::Instruction;
 
@@ -37,17 +40,8 @@ fn limits(grant_low: u16, grant_high: u16, stack_low: u16, stack_high: u16) -> L
     }
 }
 
-fn number(verdict: Verdict) -> u8
-    ensures { λ r. ⌜ r ≡ numberOf verdict ⌝ }
-{
-    match verdict {
-        Verdict::Accepted(_, _) => 0,
-        Verdict::Refused(number, _) => number,
-    }
-}
-
-// Offset, need and count.
-fn report_cells(verdict: Verdict) -> [u16; 3]
+// What a report has.
+fn offset_need_count(verdict: Verdict) -> [u16; 3]
     ensures { λ r. ⌜ r ≡ reportCells verdict ⌝ }
 {
     match verdict {
@@ -69,8 +63,10 @@ fn registers_in(cells: &[u32; 6]) -> Registers
     }
 }
 
+// They are read back as they were.
 fn register_cells(r: Registers) -> [u32; 6]
     ensures { λ v. ⌜ v ≡ registerCells r ⌝ }
+    ensures { λ v. ⌜ registersIn v ≡ r ⌝ }
 {
     [
         r.a as u32,
@@ -80,28 +76,6 @@ fn register_cells(r: Registers) -> [u32; 6]
         r.sp as u32,
         r.pc,
     ]
-}
-
-fn step_code(answer: StepAnswer) -> u8
-    ensures { λ r. ⌜ r ≡ stepCode answer ⌝ }
-{
-    match answer {
-        StepAnswer::Made => 0,
-        StepAnswer::Finished => 64,
-        StepAnswer::Trap(number) => number,
-        StepAnswer::Refused(number) => number,
-    }
-}
-
-fn run_code(answer: RunAnswer) -> u8
-    ensures { λ r. ⌜ r ≡ runCode answer ⌝ }
-{
-    match answer {
-        RunAnswer::Finished => 64,
-        RunAnswer::Spent => 65,
-        RunAnswer::Trap(number) => number,
-        RunAnswer::Refused(number) => number,
-    }
 }
 
 // Checks an image under limits.
@@ -116,7 +90,7 @@ pub extern "C" fn gate_check(
     report: &mut [u16; 3],
 ) -> u8
     ensures { λ r. ⌜ r ≡
-        numberOf (checked (now (image .entry)) (limitsBy «grant_low» «grant_high» «stack_low» «stack_high») (now (marks .entry)) .0) ⌝ }
+        valuesOf (checked (now (image .entry)) (limitsBy «grant_low» «grant_high» «stack_low» «stack_high») (now (marks .entry)) .0) .number ⌝ }
     ensures { λ _. ⌜ now (report .exit) ≡
         reportCells (checked (now (image .entry)) (limitsBy «grant_low» «grant_high» «stack_low» «stack_high») (now (marks .entry)) .0) ⌝ }
     ensures { λ _. ⌜ now (marks .exit) ≡
@@ -127,8 +101,8 @@ pub extern "C" fn gate_check(
         limits(grant_low, grant_high, stack_low, stack_high),
         marks,
     );
-    *report = report_cells(verdict);
-    number(verdict)
+    *report = offset_need_count(verdict);
+    verdict_number(verdict)
 }
 
 // Starts a routine: 17, then the whole check. Registers come in with A, X, Y and CC, and go out as those to go on from.
@@ -148,6 +122,9 @@ pub extern "C" fn gate_start(
         startedCells (now (image .entry)) (limitsBy «grant_low» «grant_high» «stack_low» «stack_high»)
         (now (marks .entry)) (now (memory .entry)) (now (registers .entry)) ≡
         record { number = r; report = now (report .exit); registers = now (registers .exit); marks = now (marks .exit); memory = now (memory .exit) } ⌝ }
+    ensures { λ _. ⌜ registersIn (now (registers .exit)) ≡
+        startedBy (now (image .entry)) (limitsBy «grant_low» «grant_high» «stack_low» «stack_high»)
+        (now (marks .entry)) (now (memory .entry)) (registersIn (now (registers .entry))) .started .registers ⌝ }
 {
     let given = registers_in(registers);
     let s = start(
@@ -162,8 +139,8 @@ pub extern "C" fn gate_start(
     );
     let verdict = s.verdict;
     *registers = register_cells(s.registers);
-    *report = report_cells(verdict);
-    number(verdict)
+    *report = offset_need_count(verdict);
+    verdict_number(verdict)
 }
 
 // Makes one step.
@@ -180,6 +157,9 @@ pub extern "C" fn gate_step(
     ensures { λ r. ⌜
         steppedCells (now (image .entry)) (limitsBy «grant_low» «grant_high» «stack_low» «stack_high») (now (registers .entry)) (now (memory .entry)) ≡
         record { number = r; registers = now (registers .exit); memory = now (memory .exit) } ⌝ }
+    ensures { λ _. ⌜ registersIn (now (registers .exit)) ≡
+        stepped (now (image .entry)) (limitsBy «grant_low» «grant_high» «stack_low» «stack_high»)
+        (registersIn (now (registers .entry))) (now (memory .entry)) .0 .registers ⌝ }
 {
     let s = step(
         image,
@@ -189,7 +169,7 @@ pub extern "C" fn gate_step(
     );
     let answer = s.answer;
     *registers = register_cells(s.registers);
-    step_code(answer)
+    step_number(answer)
 }
 
 // Makes steps until the routine finishes, traps or the budget is used up.
@@ -208,6 +188,9 @@ pub extern "C" fn gate_run(
     ensures { λ r. ⌜
         ranCells budget (now (image .entry)) (limitsBy «grant_low» «grant_high» «stack_low» «stack_high») (now (registers .entry)) (now (memory .entry)) ≡
         record { number = r; registers = now (registers .exit); steps = now (steps .exit); memory = now (memory .exit) } ⌝ }
+    ensures { λ _. ⌜ registersIn (now (registers .exit)) ≡
+        ran budget (now (image .entry)) (limitsBy «grant_low» «grant_high» «stack_low» «stack_high»)
+        (registersIn (now (registers .entry))) (now (memory .entry)) .0 .registers ⌝ }
 {
     let ran = run(
         image,
@@ -219,7 +202,7 @@ pub extern "C" fn gate_run(
     let answer = ran.answer;
     *registers = register_cells(ran.registers);
     *steps = [ran.steps];
-    run_code(answer)
+    run_number(answer)
 }
 
 // An instruction's text, with 0 after it: no text is longer than 23 letters.

@@ -1,3 +1,4 @@
+pub mod FromParts
 pub mod Granting
 pub mod Layouts
 pub mod Measuring

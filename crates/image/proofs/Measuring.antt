@@ -53,6 +53,11 @@ module _ (image : List ℕ) where
   pub end-inside : (k : ℕ) → k < countOf image → endOf image k ≤ sizeOf image
   end-inside k h = rw (start-next k h) at (start-inside (k + 1))
 
+  -- a routine with a byte makes the code have one
+  pub size-some : 1 ≤ countOf image → 1 ≤ lengthAt image 0 → 1 ≤ sizeOf image
+  unfolding endOf
+  size-some some long = omega (arith, end-inside 0 some)
+
   pub end-before : (j k : ℕ) → j < k → j < countOf image → endOf image j ≤ startOf image k
   end-before j k h below = rw (start-next j below) at (start-rises (j + 1) k (omega arith))
 
@@ -70,7 +75,7 @@ module _ (image : List ℕ) where
       firstIn-more (map lengthCheck (lengthsOf image)) k (lengthCheck 0) (omega (arith, lengths-count, length-map (lengthsOf image) lengthCheck)) ∙
       ap (first (lengthsBefore k)) (List·getD-map lengthCheck (lengthsOf image) k 0)
 
-  pub lengths-all : lengthsBefore (countOf image) ≡ lengthsCheck image
+  pub lengths-all : lengthsBefore (countOf image) ≡ lengthsCheck (lengthsOf image)
   unfolding lengthsBefore lengthsCheck
   lengths-all = ap firstIn (take-all (countOf image) (map lengthCheck (lengthsOf image)) (omega (arith, lengths-count, length-map (lengthsOf image) lengthCheck)))
 

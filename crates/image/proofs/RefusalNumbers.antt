@@ -3,11 +3,10 @@ use Prim.Native.Nat.{ℕ}
 use mathlib.Core.Path.{refl}
 use mathlib.Core.List.{List, [], _∷_, map}
 use Rattle.numbers.specs.Folds.{firstIn}
-use Rattle.numbers.proofs.Numbering.{Numbered, pass, Listed, _then_, either, under-numbered, unless-numbered, differ-numbered}
+use Rattle.numbers.proofs.Numbering.{Numbered, pass, Listed, _then_, under-numbered, unless-numbered, differ-numbered}
 use Rattle.image.specs.declared.Area.{Area}
 use Rattle.image.specs.declared.Limits.{Limits}
-use Rattle.image.specs.Image.{lengthsOf}
-use Rattle.image.specs.Validation.{areaCheck, apartCheck, limitsCheck, markCheck, versionCheck, lengthCheck, lengthsCheck, layoutCheck, refusal}
+use Rattle.image.specs.Validation.{areaCheck, limitsCheck, markCheck, versionCheck, lengthCheck, lengthsCheck, headerCheck, layoutCheck, refusal}
 
 abbrev pub Validating : ℕ → Type 0
 Validating number = Numbered 1 4 number
@@ -18,10 +17,10 @@ area-numbered area =
     under-numbered 1 refl _ _ then under-numbered 1 refl _ _ then under-numbered 1 refl _ _ then pass
 
 limits-numbered : (limits : Limits) → Validating (limitsCheck limits)
-unfolding limitsCheck apartCheck firstIn
+unfolding limitsCheck firstIn
 limits-numbered limits =
     area-numbered (limits .grant) then area-numbered (limits .stack) then under-numbered 1 refl _ _ then
-    either _ (unless-numbered 1 refl _) then pass
+    unless-numbered 1 refl _ then pass
 
 mark-numbered : (image : List ℕ) → Validating (markCheck image)
 unfolding markCheck firstIn
@@ -35,14 +34,17 @@ module _ {low high : ℕ} (four : Listed low high 4) where
   each-numbered [] = pass
   each-numbered (n ∷ lengths) = under-numbered 4 four n 1 then each-numbered lengths
 
-  pub layout-numbered : (image : List ℕ) → Numbered low high (layoutCheck image)
-  unfolding layoutCheck lengthsCheck firstIn
-  layout-numbered image =
-      under-numbered 4 four _ _ then under-numbered 4 four _ _ then each-numbered (lengthsOf image) then
-      under-numbered 4 four _ _ then under-numbered 4 four _ _ then under-numbered 4 four _ _ then
-      differ-numbered 4 four _ _ then pass
+  header-numbered : (base : ℕ) (lengths : List ℕ) → Numbered low high (headerCheck base lengths)
+  unfolding headerCheck lengthsCheck firstIn
+  header-numbered base lengths =
+      under-numbered 4 four _ _ then under-numbered 4 four _ _ then each-numbered lengths then
+      under-numbered 4 four _ _ then under-numbered 4 four _ _ then under-numbered 4 four _ _ then pass
+
+  pub layout-numbered : (base : ℕ) (lengths : List ℕ) (given : ℕ) → Numbered low high (layoutCheck base lengths given)
+  unfolding layoutCheck
+  layout-numbered base lengths given = header-numbered base lengths then differ-numbered 4 four _ _
 
 pub validation-number : (image : List ℕ) (limits : Limits) → Validating (refusal image limits)
 unfolding refusal versionCheck firstIn
 validation-number image limits =
-    limits-numbered limits then mark-numbered image then differ-numbered 3 refl _ _ then layout-numbered refl image then pass
+    limits-numbered limits then mark-numbered image then differ-numbered 3 refl _ _ then layout-numbered refl _ _ _ then pass

@@ -1,27 +1,44 @@
 -- An image and limits are valid exactly when document 01's rules hold of them.
-use Prim.Native.Nat.{ℕ, _<_, _≤_}
+use Prim.Native.Nat.{ℕ, _+_, _<_, _≤_}
 use mathlib.Core.Path.{_≡_, refl, sym, _∙_}
-use mathlib.Core.Logic.{_⊎_, inl, inr, ⊎-elim, ⊎-map, _↔_}
+use mathlib.Core.Logic.{_⊎_, inl, inr, ⊎-elim, _↔_}
 use mathlib.Core.Bool.{Bool, true, false, cond}
 use mathlib.Core.List.{List}
 use native.Mathlib.Omega.{arith}
 use lib.Dec.{eqb, ltb}
 use lib.ListN.{length, take}
-use borrow.Author.Tests.{eqb-true, eqb-false, ltb-true, ltb-false, lt-ltb}
+use borrow.Author.Tests.{eqb-true, eqb-false, eq-eqb, ne-eqb, ltb-true, ltb-false, lt-ltb}
 use Rattle.numbers.specs.Ascii.{ascii}
-use Rattle.numbers.specs.Checks.{unless}
+use Rattle.numbers.specs.Checks.{first, differ}
 use Rattle.numbers.specs.Folds.{firstIn}
-use Rattle.numbers.proofs.Checking.{by-cond, both-zero, both-pass, under-zero, under-pass, differ-zero, differ-pass, unless-zero, unless-pass}
+use Rattle.numbers.proofs.Checking.{by-cond, by-test, first-zero, under-zero, under-pass, differ-zero, differ-pass, unless-zero, unless-pass}
 use Rattle.numbers.proofs.Folding.{passed, passed-at, pass-at, _&_}
 use Rattle.numbers.proofs.Comparing.{same-refl, same-true}
-use Rattle.image.specs.Image.{countOf, lengthsOf, lengthAt, codeAt, layoutOf}
-use Rattle.image.specs.Validation.{areaCheck, apartCheck, limitsCheck, markCheck, versionCheck, lengthCheck, lengthsCheck, layoutCheck, refusal, answer, validated, validationNumber}
-use Rattle.image.specs.Rules.{Within, AreaRules, LimitsRules, ImageRules}
+use Rattle.image.specs.Image.{baseOf, countOf, lengthsOf, lengthAt, codeAt, codeOf, sizeOf, layoutOf}
+use Rattle.image.specs.Validation.{areaCheck, apart, limitsCheck, markCheck, versionCheck, lengthCheck, lengthsCheck, headerCheck, layoutCheck, refusal, answer, validated, validationNumber}
+use Rattle.image.specs.Rules.{Apart, AreaRules, LimitsRules, ImageRules}
 use Rattle.image.specs.declared.Area.{Area}
 use Rattle.image.specs.declared.Limits.{Limits}
 use Rattle.image.specs.declared.Layout.{Layout}
 use Rattle.image.specs.declared.Validated.the-variants.{Refused, Valid}
-use Rattle.image.proofs.Measuring.{lengths-count}
+use Rattle.image.proofs.Measuring.{lengths-count, size-some, code-length}
+
+-- a second check counts only where the first passes
+first-then : (a : ℕ) {b c : ℕ} → (a ≡ 0 → b ≡ c) → first a b ≡ first a c
+unfolding first
+first-then a {b} {c} h = go (eqb a 0) refl
+  where
+    go : (t : Bool) → eqb a 0 ≡ t → cond t b a ≡ cond t c a
+    go true e = h (eqb-true a 0 e)
+    go false e = refl
+
+differ-alike : (a b c d k : ℕ) → (a ≡ b) ↔ (c ≡ d) → differ a b k ≡ differ c d k
+unfolding differ
+differ-alike a b c d k h = go (eqb a b) refl
+  where
+    go : (t : Bool) → eqb a b ≡ t → cond t 0 k ≡ cond (eqb c d) 0 k
+    go true e = rw (eq-eqb c d (h .0 (eqb-true a b e)))
+    go false e = rw (ne-eqb c d (λ p. eqb-false a b e (h .1 p)))
 
 module _ (area : Area) where
   area-rules : areaCheck area ≡ 0 → AreaRules area
@@ -34,34 +51,37 @@ module _ (area : Area) where
   unfolding areaCheck firstIn
   area-pass h = under-pass _ _ 1 (h .ordered) & under-pass _ _ 1 (h .low) & under-pass _ _ 1 (h .high) & refl
 
--- the areas don't meet exactly where one ends before the other begins
+-- Areas that the test says are apart don't meet, whatever they are. Areas that don't meet are apart by the test where each has its low not above its
+-- high; one whose low is above its high holds no address and so meets none, and what the test says of it depends on its ends.
 module _ (a b : Area) where
-  apart-rule : apartCheck a b ≡ 0 → (address : ℕ) → Within a address → Within b address → ⊥
-  unfolding apartCheck
+  pub apart-rule : apart a b ≡ true → Apart a b
+  unfolding apart
   apart-rule e address p q =
-      ⊎-elim
-      (λ t. omega (arith, ltb-true (a .high) (b .low) (unless-zero _ 0 t)))
-      (λ t. omega (arith, ltb-true (b .high) (a .low) (unless-zero _ 0 t)))
-      (both-zero _ _ e)
+      by-cond (ltb (a .high) (b .low))
+      (λ t u. omega (arith, ltb-true (a .high) (b .low) t))
+      (λ t u. omega (arith, ltb-true (b .high) (a .low) u))
+      e
 
-  apart-ends : AreaRules a → AreaRules b → ((address : ℕ) → Within a address → Within b address → ⊥) →
-      (a .high < b .low) ⊎ (b .high < a .low)
-  apart-ends p q apart = go (ltb (a .high) (b .low)) refl
-    where
-      go : (t : Bool) → ltb (a .high) (b .low) ≡ t → (a .high < b .low) ⊎ (b .high < a .low)
-      go true e = inl (ltb-true (a .high) (b .low) e)
-      go false e =
-          let reach = ltb-false (a .high) (b .low) e in
-          let f : a .low ≤ b .low → ⊥ = λ h. apart (b .low) (record { above = h; below = reach }) (record { above = omega arith; below = q .ordered }) in
-          let g : a .low ≤ b .high → ⊥ = λ h. apart (a .low) (record { above = omega arith; below = p .ordered }) (record { above = omega (arith, f); below = h }) in
-          inr (omega (arith, g))
+  module _ (p : a .low ≤ a .high) (q : b .low ≤ b .high) where
+    apart-ends : Apart a b → (a .high < b .low) ⊎ (b .high < a .low)
+    apart-ends apart = go (ltb (a .high) (b .low)) refl
+      where
+        go : (t : Bool) → ltb (a .high) (b .low) ≡ t → (a .high < b .low) ⊎ (b .high < a .low)
+        go true e = inl (ltb-true (a .high) (b .low) e)
+        go false e =
+            let reach = ltb-false (a .high) (b .low) e in
+            let f : a .low ≤ b .low → ⊥ = λ h. apart (b .low) (record { above = h; below = reach }) (record { above = omega arith; below = q }) in
+            let g : a .low ≤ b .high → ⊥ = λ h. apart (a .low) (record { above = omega arith; below = p }) (record { above = omega (arith, f); below = h }) in
+            inr (omega (arith, g))
 
-  apart-pass : (a .high < b .low) ⊎ (b .high < a .low) → apartCheck a b ≡ 0
-  unfolding apartCheck
-  apart-pass h = both-pass _ _ (⊎-map (ends-apart (a .high) (b .low)) (ends-apart (b .high) (a .low)) h)
-    where
-      ends-apart : (end begin : ℕ) → end < begin → unless (ltb end begin) 1 ≡ 0
-      ends-apart end begin h = rw (lt-ltb end begin h) (unless-pass 1)
+    apart-pass : Apart a b → apart a b ≡ true
+    unfolding apart
+    apart-pass h =
+        by-test (λ t. t ≡ true) (ltb (a .high) (b .low)) (λ t. refl)
+        (λ t. ⊎-elim (λ l. absurd (omega (arith, ltb-false (a .high) (b .low) t))) (lt-ltb (b .high) (a .low)) (apart-ends h))
+
+    pub apart-exactly : (apart a b ≡ true) ↔ Apart a b
+    apart-exactly = (apart-rule, apart-pass)
 
 module _ (limits : Limits) where
   limits-rules : limitsCheck limits ≡ 0 → LimitsRules limits
@@ -72,17 +92,17 @@ module _ (limits : Limits) where
         grant = area-rules (limits .grant) (p .0);
         stack = area-rules (limits .stack) (p .1 .0);
         stackLow = under-zero _ _ 0 (p .1 .1 .0);
-        apart = apart-rule (limits .grant) (limits .stack) (p .1 .1 .1 .0);
+        apart = apart-rule (limits .grant) (limits .stack) (unless-zero _ 0 (p .1 .1 .1 .0));
       }
 
   pub limits-ends : LimitsRules limits → (limits .grant .high < limits .stack .low) ⊎ (limits .stack .high < limits .grant .low)
-  limits-ends h = apart-ends (limits .grant) (limits .stack) (h .grant) (h .stack) (h .apart)
+  limits-ends h = apart-ends (limits .grant) (limits .stack) (h .grant .ordered) (h .stack .ordered) (h .apart)
 
   limits-pass : LimitsRules limits → limitsCheck limits ≡ 0
   unfolding limitsCheck firstIn
   limits-pass h =
       area-pass (limits .grant) (h .grant) & area-pass (limits .stack) (h .stack) & under-pass _ _ 1 (h .stackLow) &
-      apart-pass (limits .grant) (limits .stack) (limits-ends h) & refl
+      rw (apart-pass (limits .grant) (limits .stack) (h .grant .ordered) (h .stack .ordered) (h .apart)) (unless-pass 1) & refl
 
 module _ (image : List ℕ) where
   mark-rule : markCheck image ≡ 0 → take 3 image ≡ ascii "SLU"
@@ -93,39 +113,58 @@ module _ (image : List ℕ) where
   unfolding markCheck firstIn
   mark-pass long e = under-pass _ _ 2 long & rw (e, same-refl) (unless-pass 2) & refl
 
-  lengths-rule : lengthsCheck image ≡ 0 → (k : ℕ) → k < countOf image → 1 ≤ lengthAt image k
+  lengths-rule : lengthsCheck (lengthsOf image) ≡ 0 → (k : ℕ) → k < countOf image → 1 ≤ lengthAt image k
   unfolding lengthsCheck lengthCheck lengthAt
   lengths-rule e k h = under-zero _ _ 3 (passed-at lengthCheck (lengthsOf image) e k (omega (arith, lengths-count image)))
 
-  lengths-pass : ((k : ℕ) → k < countOf image → 1 ≤ lengthAt image k) → lengthsCheck image ≡ 0
+  lengths-pass : ((k : ℕ) → k < countOf image → 1 ≤ lengthAt image k) → lengthsCheck (lengthsOf image) ≡ 0
   unfolding lengthsCheck lengthCheck lengthAt
   lengths-pass h = pass-at lengthCheck (lengthsOf image) (λ k below. under-pass _ _ 4 (h k (omega (arith, lengths-count image))))
 
-  image-rules : markCheck image ≡ 0 → versionCheck image ≡ 0 → layoutCheck image ≡ 0 → ImageRules image
-  unfolding versionCheck layoutCheck
+  -- where the header follows the rules there is a code byte
+  code-some : headerCheck (baseOf image) (lengthsOf image) ≡ 0 → 1 ≤ sizeOf image
+  unfolding headerCheck
+  code-some h =
+      let p = passed _ h in
+      let some : 1 ≤ countOf image = omega (arith, lengths-count image, under-zero _ _ 3 (p .0)) in
+      size-some image some (lengths-rule (p .1 .1 .0) 0 some)
+
+  -- so the code is whole exactly where the file ends with it, and the header's refusal comes first where it is cut
+  pub layout-tested : first (headerCheck (baseOf image) (lengthsOf image)) (differ (length image) (codeAt image + sizeOf image) 4) ≡
+      layoutCheck (baseOf image) (lengthsOf image) (length (codeOf image))
+  unfolding layoutCheck sizeOf
+  layout-tested =
+      first-then _ (λ h.
+      differ-alike _ _ _ _ 4 (λ e. omega (arith, code-length image), λ e. omega (arith, code-length image, code-some h)))
+
+  image-rules : markCheck image ≡ 0 → versionCheck image ≡ 0 →
+      layoutCheck (baseOf image) (lengthsOf image) (length (codeOf image)) ≡ 0 → ImageRules image
+  unfolding versionCheck layoutCheck headerCheck sizeOf
   image-rules m v l =
-      let p = passed _ l in
+      let h = first-zero _ _ l in
+      let p = passed _ (h .0) in
       let q = p .1 .1 .1 in
       record {
         mark = mark-rule m;
         version = differ-zero _ _ 2 v;
-        count = (under-zero _ _ 3 (p .0), under-zero _ _ 3 (p .1 .0));
+        count = (omega (arith, lengths-count image, under-zero _ _ 3 (p .0)), omega (arith, lengths-count image, under-zero _ _ 3 (p .1 .0)));
         lengths = lengths-rule (p .1 .1 .0);
         code = under-zero _ _ 3 (q .0);
         base = under-zero _ _ 3 (q .1 .0);
         top = under-zero _ _ 3 (q .1 .1 .0);
-        end = differ-zero _ _ 3 (q .1 .1 .1 .0);
+        end = omega (arith, code-length image, code-some (h .0), differ-zero _ _ 3 (h .1));
       }
 
   version-pass : ImageRules image → versionCheck image ≡ 0
   unfolding versionCheck
   version-pass h = differ-pass _ _ 3 (h .version)
 
-  layout-pass : ImageRules image → layoutCheck image ≡ 0
-  unfolding layoutCheck firstIn
+  layout-pass : ImageRules image → layoutCheck (baseOf image) (lengthsOf image) (length (codeOf image)) ≡ 0
+  unfolding layoutCheck headerCheck sizeOf firstIn
   layout-pass h =
-      under-pass _ _ 4 (h .count .0) & under-pass _ _ 4 (h .count .1) & lengths-pass (h .lengths) & under-pass _ _ 4 (h .code) &
-      under-pass _ _ 4 (h .base) & under-pass _ _ 4 (h .top) & differ-pass _ _ 4 (h .end) & refl
+      (under-pass _ _ 4 (omega (arith, lengths-count image, h .count .0)) & under-pass _ _ 4 (omega (arith, lengths-count image, h .count .1)) &
+      lengths-pass (h .lengths) & under-pass _ _ 4 (h .code) & under-pass _ _ 4 (h .base) & under-pass _ _ 4 (h .top) & refl) &
+      differ-pass _ _ 4 (omega (arith, code-length image, h .end))
 
   -- an image that follows the rules has its header
   header-whole : ImageRules image → 8 ≤ length image

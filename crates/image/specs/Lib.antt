@@ -3,3 +3,4 @@ pub mod Rules
 pub mod Access
 pub mod Validation
 pub mod ValidLayout
+pub mod Parts

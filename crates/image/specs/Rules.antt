@@ -13,6 +13,10 @@ pub record Within (area : Area) (address : ℕ) : Type 0 where
   pub above : area .low ≤ address
   pub below : address ≤ area .high
 
+-- two areas don't meet: no address lies in both
+abbrev pub Apart : Area → Area → Type 0
+Apart a b = (address : ℕ) → Within a address → Within b address → ⊥
+
 -- low is not above high, all are at most 7FFF
 pub record AreaRules (area : Area) : Type 0 where
   pub ordered : area .low ≤ area .high
@@ -24,7 +28,7 @@ pub record LimitsRules (limits : Limits) : Type 0 where
   pub grant : AreaRules (limits .grant)
   pub stack : AreaRules (limits .stack)
   pub stackLow : 1 ≤ limits .stack .low
-  pub apart : (address : ℕ) → Within (limits .grant) address → Within (limits .stack) address → ⊥
+  pub apart : Apart (limits .grant) (limits .stack)
 
 -- the three letters SLU, then version 0001; count is 1 to 32, each length at least 1, code at most 4,096 bytes, base at least 8000,
 -- base plus code at most 10000; the file ends with the code

@@ -1,14 +1,14 @@
 -- Validation: refusals 1 to 4 in document 01's order.
 use Prim.Native.Nat.{ℕ, _+_}
-use mathlib.Core.Bool.{cond}
+use mathlib.Core.Bool.{Bool, true, cond}
 use mathlib.Core.List.{List, [], _∷_, map}
 use lib.Dec.{eqb, ltb}
 use lib.ListN.{length, take}
 use Rattle.numbers.specs.Ascii.{ascii}
-use Rattle.numbers.specs.Checks.{both, under, unless, differ}
-use Rattle.numbers.specs.Folds.{firstIn}
+use Rattle.numbers.specs.Checks.{first, under, unless, differ}
+use Rattle.numbers.specs.Folds.{total, firstIn}
 use Rattle.numbers.specs.Lists.{same}
-use Rattle.image.specs.Image.{versionOf, baseOf, countOf, lengthsOf, codeAt, sizeOf, layoutOf}
+use Rattle.image.specs.Image.{versionOf, baseOf, lengthsOf, codeOf, layoutOf}
 use Rattle.image.specs.declared.Area.{Area}
 use Rattle.image.specs.declared.Limits.{Limits}
 use Rattle.image.specs.declared.Layout.{Layout}
@@ -25,8 +25,8 @@ areaCheck area =
     [])
 
 -- The areas don't meet: one ends before the other begins.
-unfoldable pub apartCheck : Area → Area → ℕ
-apartCheck a b = both (unless (ltb (a .high) (b .low)) 1) (unless (ltb (b .high) (a .low)) 1)
+unfoldable pub apart : Area → Area → Bool
+apart a b = cond (ltb (a .high) (b .low)) true (ltb (b .high) (a .low))
 
 -- Of both areas: stack low is at least 1, and they don't meet.
 unfoldable pub limitsCheck : Limits → ℕ
@@ -35,7 +35,7 @@ limitsCheck limits =
     (areaCheck (limits .grant) ∷
     areaCheck (limits .stack) ∷
     under (limits .stack .low) 1 1 ∷
-    apartCheck (limits .grant) (limits .stack) ∷
+    unless (apart (limits .grant) (limits .stack)) 1 ∷
     [])
 
 -- 2, under 8 bytes, or not SLU.
@@ -51,24 +51,33 @@ unfoldable pub lengthCheck : ℕ → ℕ
 lengthCheck n = under n 1 4
 
 unfoldable pub lengthsCheck : List ℕ → ℕ
-lengthsCheck image = firstIn (map lengthCheck (lengthsOf image))
+lengthsCheck lengths = firstIn (map lengthCheck lengths)
 
--- Count is 1 to 32, code at most 4,096 bytes, base at least 8000, base plus code at most 10000. The file ends with the code.
-unfoldable pub layoutCheck : List ℕ → ℕ
-layoutCheck image =
+-- Count is 1 to 32, code at most 4,096 bytes, base at least 8000, base plus code at most 10000.
+unfoldable pub headerCheck : (base : ℕ) (lengths : List ℕ) → ℕ
+headerCheck base lengths =
     firstIn
-    (under (countOf image) 1 4 ∷
-    under 32 (countOf image) 4 ∷
-    lengthsCheck image ∷
-    under 4096 (sizeOf image) 4 ∷
-    under (baseOf image) 0x8000 4 ∷
-    under 0x10000 (baseOf image + sizeOf image) 4 ∷
-    differ (length image) (codeAt image + sizeOf image) 4 ∷
+    (under (length lengths) 1 4 ∷
+    under 32 (length lengths) 4 ∷
+    lengthsCheck lengths ∷
+    under 4096 (total lengths) 4 ∷
+    under base 0x8000 4 ∷
+    under 0x10000 (base + total lengths) 4 ∷
     [])
+
+-- The file ends with the code: as many code bytes are given as the lengths add up to.
+unfoldable pub layoutCheck : (base : ℕ) (lengths : List ℕ) (given : ℕ) → ℕ
+layoutCheck base lengths given = first (headerCheck base lengths) (differ given (total lengths) 4)
 
 -- Order: 1 to 4. 0 where no rule is broken.
 unfoldable pub refusal : List ℕ → Limits → ℕ
-refusal image limits = firstIn (limitsCheck limits ∷ markCheck image ∷ versionCheck image ∷ layoutCheck image ∷ [])
+refusal image limits =
+    firstIn
+    (limitsCheck limits ∷
+    markCheck image ∷
+    versionCheck image ∷
+    layoutCheck (baseOf image) (lengthsOf image) (length (codeOf image)) ∷
+    [])
 
 -- the layout where no rule is broken, else the refusal
 abbrev pub answer : ℕ → Layout → Validated

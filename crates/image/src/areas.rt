@@ -1,10 +1,9 @@
 // The rules of limits: refusal 1.
 ghost use mathlib.Core.Path.{_≡_};
 ghost use Rattle.image.specs.Image.{limitsOf};
-ghost use Rattle.image.specs.Validation.{areaCheck, apartCheck, limitsCheck};
+ghost use Rattle.image.specs.Validation.{areaCheck, apart as apartOf, limitsCheck};
 use crate::Area;
 use crate::Limits;
-use numbers::checks::both;
 use numbers::checks::first;
 use numbers::checks::under;
 use numbers::checks::unless;
@@ -35,11 +34,11 @@ fn area_check(area: Area) -> u8
     first(refusal, under(0x7FFF, high, 1))
 }
 
-// 1 unless one area ends before the other begins.
-fn apart_check(a: Area, b: Area) -> u8
-    ensures { λ r. ⌜ r ≡ apartCheck a b ⌝ }
+// Whether two areas don't meet: one ends before the other begins.
+pub fn apart(a: Area, b: Area) -> bool
+    ensures { λ r. ⌜ r ≡ apartOf a b ⌝ }
 {
-    both(unless(a.high < b.low, 1), unless(b.high < a.low, 1))
+    if a.high < b.low { true } else { b.high < a.low }
 }
 
 // 1 where the limits break a rule.
@@ -50,5 +49,5 @@ pub fn limits_check(limits: Limits) -> u8
     let stack = limits.stack;
     let refusal = first(area_check(grant), area_check(stack));
     let refusal = first(refusal, under(stack.low as usize, 1, 1));
-    first(refusal, apart_check(grant, stack))
+    first(refusal, unless(apart(grant, stack), 1))
 }

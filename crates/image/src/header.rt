@@ -1,7 +1,8 @@
 // The header of an image: its mark, its length list and the rules of its layout.
 ghost use mathlib.Core.Path.{_≡_};
 ghost use Prim.Native.Nat.{_≤_, _+_, _*_};
-ghost use Rattle.image.specs.Image.{baseOf, countOf, codeAt, lengthAt, sizeOf, layoutOf};
+ghost use lib.ListN.{length};
+ghost use Rattle.image.specs.Image.{baseOf, countOf, codeAt, lengthAt, lengthsOf, codeOf, sizeOf, layoutOf};
 ghost use Rattle.image.specs.Validation.{markCheck, lengthsCheck, layoutCheck};
 use crate::Layout;
 use numbers::checks::differ;
@@ -70,7 +71,7 @@ pub fn routine_length(image: &[u8], k: usize) -> u16
 // The sum of the lengths and their check, in one loop. The sum of 255 lengths passes 16 bits, and not 24.
 pub fn lengths_check(image: &[u8]) -> CheckedLengths
     ensures { λ r. ⌜ r .total ≡ sizeOf (now (image .entry)) ⌝ }
-    ensures { λ r. ⌜ r .refusal ≡ lengthsCheck (now (image .entry)) ⌝ }
+    ensures { λ r. ⌜ r .refusal ≡ lengthsCheck (lengthsOf (now (image .entry))) ⌝ }
     ensures { λ r. ⌜ r .total ≤ 65535 * 255 ⌝ }
 {
     let count = count_of(image) as usize;
@@ -89,7 +90,7 @@ pub fn lengths_check(image: &[u8]) -> CheckedLengths
 // The layout and its check, from one look at the length list.
 pub fn layout_check(image: &[u8]) -> CheckedLayout
     ensures { λ r. ⌜ r .layout ≡ layoutOf (now (image .entry)) ⌝ }
-    ensures { λ r. ⌜ r .refusal ≡ layoutCheck (now (image .entry)) ⌝ }
+    ensures { λ r. ⌜ r .refusal ≡ layoutCheck (baseOf (now (image .entry))) (lengthsOf (now (image .entry))) (length (codeOf (now (image .entry)))) ⌝ }
 {
     let lengths = lengths_check(image);
     let size = lengths.total;

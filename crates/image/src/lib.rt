@@ -4,6 +4,7 @@ mod areas;
 mod header;
 
 pub use access::granted;
+pub use areas::apart;
 pub use areas::limits_of;
 pub use header::base_of;
 pub use header::code_at;

@@ -9,29 +9,30 @@ use lib.ListN.{length, take, drop, length-drop}
 use lib.Seq.{length-take-le, take-take, take-nil, getD-take}
 use Rattle.numbers.specs.Folds.{firstIn}
 use Rattle.numbers.specs.Words.{wordAt}
-use Rattle.numbers.proofs.Checking.{under-zero, under-pass, differ-zero}
+use Rattle.numbers.proofs.Checking.{first-zero, under-zero, under-pass, differ-zero}
 use Rattle.numbers.proofs.Folding.{passed}
 use Rattle.numbers.proofs.Numbering.{not-zero}
-use Rattle.image.specs.Image.{versionOf, codeAt, limitsOf}
-use Rattle.image.specs.Validation.{limitsCheck, markCheck, versionCheck, layoutCheck, refusal, validated}
+use Rattle.image.specs.Image.{versionOf, baseOf, lengthsOf, codeAt, codeOf, limitsOf}
+use Rattle.image.specs.Validation.{limitsCheck, markCheck, versionCheck, headerCheck, layoutCheck, refusal, validated}
 use Rattle.image.specs.declared.Limits.{Limits}
 use Rattle.image.specs.declared.Validated.the-variants as Validated
+use Rattle.image.proofs.Measuring.{lengths-count, code-length}
 use Rattle.image.proofs.RefusalNumbers.{layout-numbered}
 use Rattle.rules.specs.declared.Verdict.the-variants.{Refused}
 use Rattle.listing.specs.Listing.{verdictLine, listing, imageIn, checkedInput}
 use Rattle.listing.proofs.Placing.{refused-listing, checked-refused, input-whole}
 
 -- An image with a good layout has at most 8 + 2 * 32 + 4,096 bytes.
-layout-short : (image : List ℕ) → layoutCheck image ≡ 0 → length image ≤ 4168
-unfolding layoutCheck codeAt
+layout-short : (image : List ℕ) → layoutCheck (baseOf image) (lengthsOf image) (length (codeOf image)) ≡ 0 → length image ≤ 4168
+unfolding layoutCheck headerCheck codeAt
 layout-short image e =
-    let p = passed _ e in
-    let q = p .1 .1 .1 in
-    omega (arith, under-zero _ _ 3 (p .1 .0), under-zero _ _ 3 (q .0), differ-zero _ _ 3 (q .1 .1 .1 .0))
+    let q = first-zero _ _ e in
+    let p = passed _ (q .0) in
+    omega (arith, lengths-count image, code-length image, under-zero _ _ 3 (p .1 .0), under-zero _ _ 3 (p .1 .1 .1 .0), differ-zero _ _ 3 (q .1))
 
-layout-long : (image : List ℕ) → 4169 ≤ length image → layoutCheck image ≡ 4
+layout-long : (image : List ℕ) → 4169 ≤ length image → layoutCheck (baseOf image) (lengthsOf image) (length (codeOf image)) ≡ 4
 layout-long image h =
-    let gives = not-zero (layout-numbered {low = 4} {high = 4} refl image) (λ e. omega (arith, layout-short image e)) in
+    let gives = not-zero (layout-numbered {low = 4} {high = 4} refl _ _ _) (λ e. omega (arith, layout-short image e)) in
     omega (arith, gives .0, gives .1)
 
 -- A longer image is refused, by 4 at the last.

@@ -8,21 +8,18 @@ use borrow.Author.Tests.{lt-ltb, le-ltb, ne-eqb}
 use borrow.Rule.Slice.PartAt.{part-to-end}
 use lib.Dec.{ltb}
 use lib.ListN.{length, getD, take, drop, length-append}
-use lib.Seq.{sets-eq, drop-drop}
+use lib.Seq.{sets-eq}
 use Rattle.numbers.specs.Computed.{counting}
 use Rattle.numbers.proofs.Checking.{by-cond}
-use Rattle.stm8.specs.Decoding.{decoded}
-use Rattle.stm8.specs.declared.Decoded.{Decoded}
 use Rattle.stm8.specs.declared.Instruction.{Instruction}
 use Rattle.disassembly.specs.Notation.{text, placed}
 use Rattle.disassembly.specs.declared.Written.{Written}
 use Rattle.disassembly.specs.declared.Written.the-variants.{Bytes, TooShort}
 use Rattle.disassembly.proofs.Placing.{text-placed}
-use Rattle.image.specs.Image.{baseOf, codeAt, codeOf, sizeOf, layoutOf, limitsOf}
+use Rattle.image.specs.Image.{baseOf, sizeOf, limitsOf}
+use Rattle.code.specs.Code.{instructionIn}
 use Rattle.image.specs.Validation.{validated}
-use Rattle.image.specs.ValidLayout.{ValidLayout}
 use Rattle.image.specs.declared.Limits.{Limits}
-use Rattle.image.specs.declared.Layout.{Layout}
 use Rattle.image.specs.declared.Validated.the-variants as Validated
 use Rattle.acceptance.specs.Check.{checked}
 use Rattle.rules.specs.declared.Verdict.{Verdict}
@@ -65,15 +62,10 @@ text-fits address i part after written e room is =
     omega arith
 
 -- the line of a start
-pub line-start : (image marks : List ℕ) (layout : Layout) (offset mark : ℕ) (d : Decoded) → ValidLayout image layout →
-    mark ≡ getD marks offset 0 → (mark ≡ 0 → ⊥) → d ≡ decoded (take (length image - (layout .code + offset)) (drop (layout .code + offset) image)) →
-    startLine (layout .base + offset) (mark - 1) d ≡ lineAt image marks offset
-unfolding lineAt codeOf layoutOf
-line-start image marks layout offset mark d laid is some e =
-    let from = layout .code + offset in
-    let code : layout .code ≡ codeAt image = ap (λ (l : Layout). l .code) (laid .is) in
-    let base : layout .base ≡ baseOf image = ap (λ (l : Layout). l .base) (laid .is) in
-    rw (← is, ne-eqb mark 0 some, e, part-to-end image from, base, code, drop-drop)
+pub line-start : (image marks : List ℕ) (offset mark : ℕ) → mark ≡ getD marks offset 0 → (mark ≡ 0 → ⊥) →
+    startLine (baseOf image + offset) (mark - 1) (instructionIn image offset) ≡ lineAt image marks offset
+unfolding lineAt
+line-start image marks offset mark is some = rw (← is, ne-eqb mark 0 some)
 
 -- what was written lies within the buffer
 pub listed-within : (image marks buffer : List ℕ) (outcome : Verdict × List ℕ) (n : ℕ) (marks′ buffer′ : List ℕ) →
@@ -96,10 +88,10 @@ listed-within image marks buffer outcome n marks′ buffer′ e =
 
 -- the parts of a listing
 module _ (image marks : List ℕ) (outcome : Verdict × List ℕ) where
-  pub accepted-listing : (v : Verdict) {need count : ℕ} (size : ℕ) → outcome ≡ (v, marks) → v ≡ Accepted need count → size ≡ sizeOf image →
-      verdictLine v ++ flatMap (lineAt image marks) (counting size 0) ≡ listing image outcome
+  pub accepted-listing : (v : Verdict) {need count : ℕ} → outcome ≡ (v, marks) → v ≡ Accepted need count →
+      verdictLine v ++ flatMap (lineAt image marks) (counting (sizeOf image) 0) ≡ listing image outcome
   unfolding listing
-  accepted-listing v size e is f = rw (e, is, f)
+  accepted-listing v e is = rw (e, is)
 
   pub refused-listing : (v : Verdict) {number offset : ℕ} → outcome ≡ (v, marks) → v ≡ Refused number offset → verdictLine v ≡ listing image outcome
   unfolding listing

@@ -2,16 +2,18 @@
 use Prim.Native.Nat.{ℕ, zero, suc, _+_, _-_, _*_, _/_, _≤_}
 use mathlib.Core.Path.{_≡_, refl}
 use mathlib.Core.Bool.{Bool, true, false, cond}
-use mathlib.Core.List.{List, [], flatMap}
+use mathlib.Core.List.{List, [], _++_, flatMap}
 use native.Mathlib.Omega.{arith}
 use lib.Dec.{eqb, ltb}
-use lib.ListN.{length, getD, drop, length-append}
+use lib.ListN.{length, getD, length-append}
+use Rattle.numbers.specs.Ascii.{ascii}
 use Rattle.numbers.specs.Computed.{counting}
-use Rattle.stm8.specs.Decoding.{decoded}
 use Rattle.stm8.specs.declared.Decoded.{Decoded}
 use Rattle.stm8.specs.declared.Decoded.the-variants.{Found, Outside, Truncated}
+use Rattle.disassembly.specs.Notation.{wordDigits}
 use Rattle.disassembly.proofs.Sizes.{text-size}
-use Rattle.image.specs.Image.{baseOf, codeOf, sizeOf, limitsOf}
+use Rattle.image.specs.Image.{baseOf, sizeOf, limitsOf}
+use Rattle.code.specs.Code.{instructionIn}
 use Rattle.image.specs.Validation.{validated}
 use Rattle.image.specs.declared.Limits.{Limits}
 use Rattle.image.specs.declared.Validated.{Validated}
@@ -51,6 +53,9 @@ text-at-size address (Found i n) = text-size address i .most
 text-at-size address Outside = omega arith
 text-at-size address Truncated = omega arith
 
+pub front-size : (address depth : ℕ) → length (wordDigits address ++ ascii " " ++ decimal depth ++ ascii " ") ≤ 11
+front-size address depth = simp length-append (omega (arith, decimal-size depth))
+
 start-line-size : (address depth : ℕ) (d : Decoded) → length (startLine address depth d) ≤ 35
 unfolding startLine
 start-line-size address depth d = simp length-append (omega (arith, decimal-size depth, text-at-size address d))
@@ -59,7 +64,7 @@ pub line-size : (image marks : List ℕ) (offset : ℕ) → length (lineAt image
 unfolding lineAt
 line-size image marks offset =
     unless-size (eqb (getD marks offset 0) 0) _
-    (start-line-size (baseOf image + offset) (getD marks offset 0 - 1) (decoded (drop offset (codeOf image))))
+    (start-line-size (baseOf image + offset) (getD marks offset 0 - 1) (instructionIn image offset))
 
 lines-size : (f : ℕ → List ℕ) → ((k : ℕ) → length (f k) ≤ 35) → (n i : ℕ) → length (flatMap f (counting n i)) ≤ 35 * n
 unfolding flatMap

@@ -6,13 +6,13 @@ use lib.Dec.{eqb, ltb}
 use lib.ListN.{length, getD, drop}
 use Rattle.numbers.specs.Ascii.{ascii}
 use Rattle.numbers.specs.Computed.{counting}
-use Rattle.stm8.specs.Decoding.{decoded}
 use Rattle.stm8.specs.declared.Decoded.{Decoded}
 use Rattle.stm8.specs.declared.Decoded.the-variants.{Found, Outside, Truncated}
 use Rattle.disassembly.specs.Notation.{wordDigits, text}
 use Rattle.disassembly.specs.declared.Written.{Written}
 use Rattle.disassembly.specs.declared.Written.the-variants.{Bytes, TooShort}
-use Rattle.image.specs.Image.{baseOf, codeOf, sizeOf, limitsOf}
+use Rattle.image.specs.Image.{baseOf, sizeOf, limitsOf}
+use Rattle.code.specs.Code.{instructionIn}
 use Rattle.acceptance.specs.Check.{checked}
 use Rattle.rules.specs.declared.Verdict.{Verdict}
 use Rattle.rules.specs.declared.Verdict.the-variants.{Accepted, Refused}
@@ -40,7 +40,7 @@ startLine address depth d = wordDigits address ++ ascii " " ++ decimal depth ++ 
 unfoldable pub lineAt : List ℕ → List ℕ → ℕ → List ℕ
 lineAt image marks offset =
     let mark = getD marks offset 0 in
-    cond (eqb mark 0) [] (startLine (baseOf image + offset) (mark - 1) (decoded (drop offset (codeOf image))))
+    cond (eqb mark 0) [] (startLine (baseOf image + offset) (mark - 1) (instructionIn image offset))
 
 -- Then, for each start, rising.
 abbrev pub startLines : List ℕ → List ℕ → Verdict → List ℕ

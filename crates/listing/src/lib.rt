@@ -3,47 +3,18 @@ mod lines;
 mod writing;
 
 ghost use mathlib.Core.Path.{_≡_};
-ghost use Prim.Native.Nat.{_≤_};
-ghost use lib.ListN.{length};
-ghost use Rattle.image.specs.Validation.{validated};
-ghost use Rattle.image.specs.declared.Validated.the-variants.{Valid};
 ghost use Rattle.acceptance.specs.Check.{checked};
-ghost use Rattle.listing.specs.Listing.{listing, longest, listed, imageIn, checkedInput};
-ghost use Rattle.listing.specs.Internal.{Wrote};
+ghost use Rattle.listing.specs.Listing.{listed, imageIn, checkedInput};
 use checker::check;
 use disassembly::Written;
-use image::Layout;
 use image::Limits;
-use image::Validated;
 use image::limits_of;
-use image::validate;
 use lines::push_starts;
 use lines::write_verdict;
 use rules::Verdict;
 
 // No listing is longer: 21 bytes for line one, and at most 35 for each of at most 4,096 code bytes.
 pub const LONGEST: usize = 143381;
-
-// The listing of a valid image.
-fn list_valid(
-    image: &[u8],
-    limits: Limits,
-    layout: Layout,
-    marks: &mut [u16],
-    buffer: &mut [u8],
-) -> usize
-    requires { ⌜ (validated (now image) limits ≡ Valid layout) × (longest ≤ length (now buffer)) ⌝ }
-    ensures { λ r. ⌜ now (marks .exit) ≡ checked (now (image .entry)) limits (now (marks .entry)) .1 ⌝ }
-    ensures { λ r. ⌜
-        Wrote 0 (now (buffer .entry)) (listing (now (image .entry)) (checked (now (image .entry)) limits (now (marks .entry)))) r (now (buffer .exit)) ⌝ }
-{
-    let v = check(image, limits, marks);
-    let at = write_verdict(buffer, v);
-    match v {
-        Verdict::Accepted(_, _) => push_starts(buffer, at, image, layout, &marks[..]),
-        Verdict::Refused(_, _) => at,
-    }
-}
 
 // Checks an image under limits and writes the listing to the start of the buffer, which has room for any: a buffer shorter than LONGEST is refused.
 pub fn list(image: &[u8], limits: Limits, marks: &mut [u16], buffer: &mut [u8]) -> Written
@@ -53,19 +24,11 @@ pub fn list(image: &[u8], limits: Limits, marks: &mut [u16], buffer: &mut [u8]) 
     if buffer.len() < LONGEST {
         return Written::TooShort;
     }
-    let validated = validate(image, limits);
-    match validated {
-        Validated::Refused(number) => Written::Bytes(write_verdict(
-            buffer,
-            Verdict::Refused(number, 0),
-        )),
-        Validated::Valid(layout) => Written::Bytes(list_valid(
-            image,
-            limits,
-            layout,
-            marks,
-            buffer,
-        )),
+    let v = check(image, limits, marks);
+    let at = write_verdict(buffer, v);
+    match v {
+        Verdict::Accepted(_, _) => Written::Bytes(push_starts(buffer, at, image, &marks[..])),
+        Verdict::Refused(_, _) => Written::Bytes(at),
     }
 }
 

@@ -5,19 +5,25 @@ ghost use Prim.Native.Nat.{_+_, _*_, _≤_, _<_};
 ghost use lib.ListN.{length, getD};
 ghost use Rattle.numbers.specs.Ascii.{ascii};
 ghost use Rattle.numbers.specs.Computed.{counting};
-ghost use Rattle.image.specs.ValidLayout.{ValidLayout};
+ghost use Rattle.image.specs.Image.{versionOf, baseOf, sizeOf};
+ghost use Rattle.image.specs.Rules.{ImageRules};
+ghost use Rattle.code.specs.Set.{lengthsFor};
+ghost use Rattle.code.specs.Code.{instructionIn};
+ghost use Rattle.disassembly.specs.Notation.{wordDigits};
 ghost use Rattle.listing.specs.Decimal.{decimal};
-ghost use Rattle.listing.specs.Listing.{lineFeed, verdictLine, textAt, startLine, lineAt};
+ghost use Rattle.listing.specs.Listing.{lineFeed, verdictLine, textAt, lineAt};
 ghost use Rattle.listing.specs.Internal.{Wrote};
 use crate::writing::push;
 use crate::writing::push_bytes;
 use crate::writing::push_decimal;
 use crate::writing::push_text;
 use crate::writing::push_word;
-use decoder::decode;
-use image::Layout;
+use code::decode_at;
+use image::base_of;
+use image::code_at;
 use rules::Verdict;
 use stm8::Decoded;
+use stm8::map_lengths;
 
 // A word and two numbers.
 fn write_figures(buffer: &mut [u8], word: &[u8], a: u16, b: u16) -> usize
@@ -32,7 +38,7 @@ fn write_figures(buffer: &mut [u8], word: &[u8], a: u16, b: u16) -> usize
 }
 
 // Line one, at the buffer's start.
-pub fn write_verdict(buffer: &mut [u8], v: Verdict) -> usize
+pub(crate) fn write_verdict(buffer: &mut [u8], v: Verdict) -> usize
     requires { ⌜ 21 ≤ length (now buffer) ⌝ }
     ensures { λ r. ⌜ Wrote 0 (now (buffer .entry)) (verdictLine v) r (now (buffer .exit)) ⌝ }
 {
@@ -47,28 +53,36 @@ pub fn write_verdict(buffer: &mut [u8], v: Verdict) -> usize
     }
 }
 
-fn push_decoded(buffer: &mut [u8], at: usize, address: u16, d: Decoded) -> usize
-    requires { ⌜ at + 23 ≤ length (now buffer) ⌝ }
-    ensures { λ r. ⌜ Wrote at (now (buffer .entry)) (textAt address d) r (now (buffer .exit)) ⌝ }
+// Address and depth of a start, each with a space after it.
+fn push_front(buffer: &mut [u8], at: usize, address: u16, depth: u16) -> usize
+    requires { ⌜ at + 11 ≤ length (now buffer) ⌝ }
+    ensures { λ r. ⌜ Wrote at (now (buffer .entry)) (wordDigits address ++ ascii " " ++ decimal depth ++ ascii " ") r (now (buffer .exit)) ⌝ }
 {
+    let at = push_word(buffer, at, address);
+    let at = push(buffer, at, b' ');
+    let at = push_decimal(buffer, at, depth);
+    push(buffer, at, b' ')
+}
+
+// The text of what stands at an offset.
+fn push_decoded(
+    buffer: &mut [u8],
+    at: usize,
+    image: &[u8],
+    lengths: &[[u8; 256]; 3],
+    size: usize,
+    offset: usize,
+    address: u16,
+) -> usize
+    requires { ⌜ (now lengths ≡ lengthsFor (versionOf (now image))) × (size ≡ sizeOf (now image)) × (at + 23 ≤ length (now buffer)) ⌝ }
+    ensures { λ r. ⌜ Wrote at (now (buffer .entry)) (textAt address (instructionIn (now (image .entry)) offset)) r (now (buffer .exit)) ⌝ }
+{
+    let d = decode_at(image, lengths, offset, size);
     match d {
         Decoded::Found(i, _) => push_text(buffer, at, address, i),
         Decoded::Outside => at,
         Decoded::Truncated => at,
     }
-}
-
-// The line of a start.
-fn push_start(buffer: &mut [u8], at: usize, address: u16, depth: u16, d: Decoded) -> usize
-    requires { ⌜ at + 35 ≤ length (now buffer) ⌝ }
-    ensures { λ r. ⌜ Wrote at (now (buffer .entry)) (startLine address depth d) r (now (buffer .exit)) ⌝ }
-{
-    let at = push_word(buffer, at, address);
-    let at = push(buffer, at, b' ');
-    let at = push_decimal(buffer, at, depth);
-    let at = push(buffer, at, b' ');
-    let at = push_decoded(buffer, at, address, d);
-    push(buffer, at, b'\n')
 }
 
 // The mark at an offset, 0 past the end.
@@ -87,38 +101,37 @@ fn push_line(
     buffer: &mut [u8],
     at: usize,
     image: &[u8],
-    layout: Layout,
+    lengths: &[[u8; 256]; 3],
+    size: usize,
     marks: &[u16],
     offset: usize,
 ) -> usize
-    requires { ⌜ ValidLayout (now image) layout × (offset < layout .size) × (at + 35 ≤ length (now buffer)) ⌝ }
+    requires { ⌜ (now lengths ≡ lengthsFor (versionOf (now image))) × (size ≡ sizeOf (now image)) ⌝ }
+    requires { ⌜ (baseOf (now image) + offset < 0x10000) × (at + 35 ≤ length (now buffer)) ⌝ }
     ensures { λ r. ⌜ Wrote at (now (buffer .entry)) (lineAt (now (image .entry)) (now (marks .entry)) offset) r (now (buffer .exit)) ⌝ }
 {
     let mark = mark_at(marks, offset);
     if mark == 0 {
         return at;
     }
-    let from = layout.code + offset;
-    let d = decode(&image[from..]);
-    push_start(buffer, at, layout.base + offset as u16, mark - 1, d)
+    let address = base_of(image) + offset as u16;
+    let at = push_front(buffer, at, address, mark - 1);
+    let at = push_decoded(buffer, at, image, lengths, size, offset, address);
+    push(buffer, at, b'\n')
 }
 
 // The lines of all starts, rising.
-pub fn push_starts(
-    buffer: &mut [u8],
-    at: usize,
-    image: &[u8],
-    layout: Layout,
-    marks: &[u16],
-) -> usize
-    requires { ⌜ ValidLayout (now image) layout × (at + 35 * layout .size ≤ length (now buffer)) ⌝ }
-    ensures { λ r. ⌜
-        Wrote at (now (buffer .entry)) (flatMap (lineAt (now (image .entry)) (now (marks .entry))) (counting (layout .size) 0)) r (now (buffer .exit)) ⌝ }
+pub(crate) fn push_starts(buffer: &mut [u8], at: usize, image: &[u8], marks: &[u16]) -> usize
+    requires { ⌜ ImageRules (now image) × (at + 35 * sizeOf (now image) ≤ length (now buffer)) ⌝ }
+    ensures { λ r. ⌜ Wrote at (now (buffer .entry))
+        (flatMap (lineAt (now (image .entry)) (now (marks .entry))) (counting (sizeOf (now (image .entry))) 0)) r (now (buffer .exit)) ⌝ }
 {
+    let lengths = map_lengths();
+    let size = image.len() - code_at(image);
     let mut end = at;
     let mut offset = 0;
-    while offset < layout.size {
-        end = push_line(buffer, end, image, layout, marks, offset);
+    while offset < size {
+        end = push_line(buffer, end, image, &lengths, size, marks, offset);
         offset += 1;
     }
     end

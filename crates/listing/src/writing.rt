@@ -11,7 +11,7 @@ use disassembly::hex_digit;
 use numbers::words;
 use stm8::Instruction;
 
-pub fn push(buffer: &mut [u8], at: usize, b: u8) -> usize
+pub(crate) fn push(buffer: &mut [u8], at: usize, b: u8) -> usize
     requires { ⌜ at < length (now buffer) ⌝ }
     ensures { λ r. ⌜ Wrote at (now (buffer .entry)) (b ∷ []) r (now (buffer .exit)) ⌝ }
 {
@@ -19,7 +19,7 @@ pub fn push(buffer: &mut [u8], at: usize, b: u8) -> usize
     at + 1
 }
 
-pub fn push_bytes(buffer: &mut [u8], at: usize, source: &[u8]) -> usize
+pub(crate) fn push_bytes(buffer: &mut [u8], at: usize, source: &[u8]) -> usize
     requires { ⌜ at + length (now source) ≤ length (now buffer) ⌝ }
     ensures { λ r. ⌜ Wrote at (now (buffer .entry)) (now (source .entry)) r (now (buffer .exit)) ⌝ }
 {
@@ -37,7 +37,7 @@ fn push_hex(buffer: &mut [u8], at: usize, n: u8) -> usize
 }
 
 // The four hexadecimal digits of a word.
-pub fn push_word(buffer: &mut [u8], at: usize, w: u16) -> usize
+pub(crate) fn push_word(buffer: &mut [u8], at: usize, w: u16) -> usize
     requires { ⌜ at + 4 ≤ length (now buffer) ⌝ }
     ensures { λ r. ⌜ Wrote at (now (buffer .entry)) (wordDigits w) r (now (buffer .exit)) ⌝ }
 {
@@ -64,7 +64,7 @@ fn push_leading(buffer: &mut [u8], at: usize, n: u16) -> usize
     push_digit(buffer, at, n)
 }
 
-pub fn push_decimal(buffer: &mut [u8], at: usize, n: u16) -> usize
+pub(crate) fn push_decimal(buffer: &mut [u8], at: usize, n: u16) -> usize
     requires { ⌜ at + 5 ≤ length (now buffer) ⌝ }
     ensures { λ r. ⌜ Wrote at (now (buffer .entry)) (decimalOf n) r (now (buffer .exit)) ⌝ }
 {
@@ -76,7 +76,7 @@ pub fn push_decimal(buffer: &mut [u8], at: usize, n: u16) -> usize
 }
 
 // The text of the instruction at an address.
-pub fn push_text(buffer: &mut [u8], at: usize, address: u16, i: Instruction) -> usize
+pub(crate) fn push_text(buffer: &mut [u8], at: usize, address: u16, i: Instruction) -> usize
     requires { ⌜ at + 23 ≤ length (now buffer) ⌝ }
     ensures { λ r. ⌜ Wrote at (now (buffer .entry)) (textOf address i) r (now (buffer .exit)) ⌝ }
 {

@@ -5,7 +5,7 @@ use mathlib.Core.Path.{_≡_, refl, sym}
 use mathlib.Core.Bool.{Bool, true, false, cond, true≢false}
 use mathlib.Core.List.{List}
 use native.Mathlib.Omega.{arith}
-use Rattle.stm8.specs.Effects.{bytesWide, effect, placeOf, writesBack, fallsThrough}
+use Rattle.stm8.specs.Effects.{bytesWide, effect, isCall, placeOf, writesBack, fallsThrough}
 use Rattle.stm8.specs.declared.Operand.{Operand}
 use Rattle.stm8.specs.declared.Operand.the-variants.{Accumulator, Immediate, ImmediateWord, Short, Long, Indexed, Sp}
 use Rattle.stm8.specs.declared.Width.{Width}
@@ -17,7 +17,6 @@ use Rattle.stm8.specs.declared.Flow.the-variants.{Next, Branch, Jump, Call, Cal
 use Rattle.stm8.specs.declared.Instruction.{Instruction}
 use Rattle.stm8.specs.declared.Instruction.the-variants as I
 use Rattle.machine.specs.Computing.{computed}
-use Rattle.machine.specs.Step.{isCall}
 use Rattle.machine.specs.declared.Registers.{Registers}
 
 -- what is pushed lies in the bytes that are added

@@ -6,5 +6,6 @@ pub mod StepEffect
 pub mod RunLaws
 pub mod OnlyStep
 pub mod RunEnds
+pub mod RunParts
 pub mod Numbers
 pub mod KeptBits

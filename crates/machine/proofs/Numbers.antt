@@ -1,19 +1,17 @@
--- Document 01's numbers: a refused step or run has its refusal's, another a trap's, 21 to 25, or 0.
+-- Document 01's numbers: a refused step or run has its refusal's, another 0, 64 or 65 by its answer, or a trap's, 21 to 25.
 use Prim.Native.Nat.{ℕ, zero, suc, _+_, _-_, _≤_}
-use mathlib.Core.Path.{_≡_, refl, _∙_}
+use mathlib.Core.Path.{_≡_, refl, _∙_, subst}
 use mathlib.Core.Bool.{Bool, true, false}
 use mathlib.Core.List.{List}
-use mathlib.Core.Logic.{inl, inr}
 use native.Mathlib.Omega.{arith}
 use lib.Dec.{eqb, ltb}
-use lib.ListN.{drop}
+use lib.ListN.{length}
 use borrow.Author.Tests.{eqb-true, eqb-false}
 use Rattle.numbers.specs.Checks.{first}
 use Rattle.numbers.specs.Folds.{firstIn}
 use Rattle.numbers.proofs.Checking.{by-test}
-use Rattle.numbers.proofs.Numbering.{Numbered, pass, not-zero, tested, _then_, under-numbered, unless-numbered}
-use Rattle.stm8.specs.Decoding.{decoded}
-use Rattle.stm8.specs.Effects.{bytesWide, effect}
+use Rattle.numbers.proofs.Numbering.{Numbered, pass, fails, not-zero, tested, _then_, under-numbered, unless-numbered, differ-numbered}
+use Rattle.stm8.specs.Effects.{bytesWide, effect, isCall}
 use Rattle.stm8.specs.declared.Place.{Place}
 use Rattle.stm8.specs.declared.Place.the-variants.{Nowhere, Direct, OnStack, Pushed}
 use Rattle.stm8.specs.declared.Effect.{Effect}
@@ -21,13 +19,16 @@ use Rattle.stm8.specs.declared.Decoded.{Decoded}
 use Rattle.stm8.specs.declared.Decoded.the-variants.{Found, Outside, Truncated}
 use Rattle.image.specs.declared.Limits.{Limits}
 use Rattle.image.specs.Access.{granted}
-use Rattle.image.specs.Image.{baseOf, codeOf}
-use Rattle.machine.specs.Step.{Result, spTrap, pcTrap, moveTrap, storeTrap, isCall, callTrap, effectTrap, made, decodedStep, stepValid}
+use Rattle.image.specs.Image.{baseOf}
+use Rattle.image.proofs.RefusalNumbers.{validation-number}
+use Rattle.code.specs.Code.{instructionIn}
+use Rattle.machine.specs.Step.{Result, spTrap, pcTrap, moveTrap, storeTrap, callTrap, effectTrap, made, decodedStep, stepValid}
 use Rattle.machine.specs.Step.{stepRefusal, stepped, StepNumbered}
 use Rattle.machine.specs.Run.{afterStep, noStepsLeft, ran, RunNumbered}
 use Rattle.machine.specs.declared.Registers.{Registers}
 use Rattle.machine.specs.declared.StepAnswer.{StepAnswer}
 use Rattle.machine.specs.declared.StepAnswer.the-variants.{Made, Finished, Trap, Refused}
+use Rattle.machine.specs.declared.Stepped.{Stepped}
 use Rattle.machine.specs.declared.RunAnswer.{RunAnswer}
 use Rattle.machine.specs.declared.RunAnswer.the-variants as Run
 use Rattle.machine.specs.declared.Ran.{Ran}
@@ -61,6 +62,19 @@ effect-numbered limits sp next e =
     move-numbered limits sp e then store-numbered limits sp (e .place) then
     tested (isCall (e .flow)) (unless-numbered 22 refl (ltb next 0x10000)) pass then pass
 
+-- the refusals
+widened : {number : ℕ} → Numbered 1 4 number → Numbered 1 17 number
+widened pass = pass
+widened (fails above below) = fails above (omega arith)
+
+at-most : {low high number : ℕ} → Numbered low high number → number ≤ high
+at-most pass = omega arith
+at-most (fails above below) = below
+
+refusal-small : (image : List ℕ) (limits : Limits) (memory : List ℕ) → stepRefusal image limits memory ≤ 17
+unfolding stepRefusal
+refusal-small image limits memory = at-most (differ-numbered 17 refl (length memory) 32768 then widened (validation-number image limits))
+
 -- a step that is not refused is made or finished, or traps
 abbrev StepUnrefused : StepAnswer → Type 0
 StepUnrefused Made = Unit {0}
@@ -69,10 +83,27 @@ StepUnrefused (Trap number) = (21 ≤ number) × (number ≤ 25)
 StepUnrefused (Refused number) = ⊥
 
 step-numbered : (refused : ℕ) → refused ≡ 0 → (answer : StepAnswer) → StepUnrefused answer → StepNumbered refused answer
-step-numbered refused valid Made h = record { refusal = λ some. absurd (some valid); trap = λ e some. absurd (some refl); none = λ e. inl refl }
-step-numbered refused valid Finished h = record { refusal = λ some. absurd (some valid); trap = λ e some. absurd (some refl); none = λ e. inr refl }
+step-numbered refused valid Made h =
+    record {
+      refusal = λ some. absurd (some valid);
+      made = λ e. refl;
+      finished = λ e. let z : ⊥ = omega (arith, e) in absurd z;
+      trap = λ e some other. absurd (some refl);
+    }
+step-numbered refused valid Finished h =
+    record {
+      refusal = λ some. absurd (some valid);
+      made = λ e. let z : ⊥ = omega (arith, e) in absurd z;
+      finished = λ e. refl;
+      trap = λ e some other. absurd (other refl);
+    }
 step-numbered refused valid (Trap number) h =
-    record { refusal = λ some. absurd (some valid); trap = λ e some. h; none = λ e. let z : ⊥ = omega (arith, h .0) in absurd z }
+    record {
+      refusal = λ some. absurd (some valid);
+      made = λ e. let z : ⊥ = omega (arith, h .0) in absurd z;
+      finished = λ e. let z : ⊥ = omega (arith, h .1) in absurd z;
+      trap = λ e some other. h;
+    }
 step-numbered refused valid (Refused number) h = absurd h
 
 module _ (image : List ℕ) (limits : Limits) (regs : Registers) (memory : List ℕ) where
@@ -94,7 +125,7 @@ module _ (image : List ℕ) (limits : Limits) (regs : Registers) (memory : List 
       by-test Unrefused (eqb (regs .pc) 0)
       (λ t. tt)
       (λ t. by-test Unrefused (eqb (first (spTrap limits (regs .sp)) (pcTrap image (regs .pc))) 0)
-      (λ u. decoded-unrefused (decoded (drop (regs .pc - baseOf image) (codeOf image))))
+      (λ u. decoded-unrefused (instructionIn image (regs .pc - baseOf image)))
       (λ u. not-zero (sp-numbered limits (regs .sp) then pc-numbered image (regs .pc)) (eqb-false _ _ u)))
 
   step-unrefused : stepRefusal image limits memory ≡ 0 → Unrefused (stepped image limits regs memory)
@@ -107,8 +138,18 @@ module _ (image : List ℕ) (limits : Limits) (regs : Registers) (memory : List 
           StepNumbered (stepRefusal image limits memory) (stepped image limits regs memory .0 .answer)
       go true t = step-numbered _ (eqb-true _ _ t) (stepped image limits regs memory .0 .answer) (step-unrefused (eqb-true _ _ t))
       go false t =
+          let small = refusal-small image limits memory in
           rw (step-refused image limits regs memory _ refl (eqb-false _ _ t))
-          record { refusal = λ some. refl; trap = λ e some. absurd (some e); none = λ e. absurd (eqb-false _ _ t e) }
+          record {
+            refusal = λ some. refl;
+            made = λ e. absurd (eqb-false _ _ t e);
+            finished = λ e. let z : ⊥ = omega (arith, small) in absurd z;
+            trap = λ e some other. absurd (some e);
+          }
+
+  pub step-answered : (s : Stepped) (memory′ : List ℕ) → stepped image limits regs memory ≡ (s, memory′) →
+      (stepped image limits regs memory ≡ (s, memory′)) × StepNumbered (stepRefusal image limits memory) (s .answer)
+  step-answered s memory′ e = (e, subst (λ (r : Result). StepNumbered (stepRefusal image limits memory) (r .0 .answer)) e step-number)
 
 -- the same of a run
 abbrev RunUnrefused : RunAnswer → Type 0
@@ -118,10 +159,27 @@ RunUnrefused (Run.Trap number) = (21 ≤ number) × (number ≤ 25)
 RunUnrefused (Run.Refused number) = ⊥
 
 run-numbered : (refused : ℕ) → refused ≡ 0 → (answer : RunAnswer) → RunUnrefused answer → RunNumbered refused answer
-run-numbered refused valid Run.Finished h = record { refusal = λ some. absurd (some valid); trap = λ e some. absurd (some refl); none = λ e. inl refl }
-run-numbered refused valid Run.Spent h = record { refusal = λ some. absurd (some valid); trap = λ e some. absurd (some refl); none = λ e. inr refl }
+run-numbered refused valid Run.Finished h =
+    record {
+      refusal = λ some. absurd (some valid);
+      finished = λ e. refl;
+      spent = λ e. let z : ⊥ = omega (arith, e) in absurd z;
+      trap = λ e other some. absurd (other refl);
+    }
+run-numbered refused valid Run.Spent h =
+    record {
+      refusal = λ some. absurd (some valid);
+      finished = λ e. let z : ⊥ = omega (arith, e) in absurd z;
+      spent = λ e. refl;
+      trap = λ e other some. absurd (some refl);
+    }
 run-numbered refused valid (Run.Trap number) h =
-    record { refusal = λ some. absurd (some valid); trap = λ e some. h; none = λ e. let z : ⊥ = omega (arith, h .0) in absurd z }
+    record {
+      refusal = λ some. absurd (some valid);
+      finished = λ e. let z : ⊥ = omega (arith, h .1) in absurd z;
+      spent = λ e. let z : ⊥ = omega (arith, h .1) in absurd z;
+      trap = λ e other some. h;
+    }
 run-numbered refused valid (Run.Refused number) h = absurd h
 
 module _ (image : List ℕ) (limits : Limits) where
@@ -150,5 +208,17 @@ module _ (image : List ℕ) (limits : Limits) where
           RunNumbered (stepRefusal image limits memory) (ran budget image limits regs memory .0 .answer)
       go true t = run-numbered _ (eqb-true _ _ t) (ran budget image limits regs memory .0 .answer) (run-unrefused budget regs memory (eqb-true _ _ t))
       go false t =
+          let small = refusal-small image limits memory in
           rw (refused-at-once budget image limits regs memory _ (refl, eqb-false _ _ t))
-          record { refusal = λ some. refl; trap = λ e some. absurd (some e); none = λ e. absurd (eqb-false _ _ t e) }
+          record {
+            refusal = λ some. refl;
+            finished = λ e. let z : ⊥ = omega (arith, small) in absurd z;
+            spent = λ e. let z : ⊥ = omega (arith, small) in absurd z;
+            trap = λ e other some. absurd (eqb-false _ _ t e);
+          }
+
+  pub run-answered : (budget : ℕ) (regs : Registers) (memory : List ℕ) (r : Ran) (memory′ : List ℕ) →
+      ran budget image limits regs memory ≡ (r, memory′) →
+      (ran budget image limits regs memory ≡ (r, memory′)) × RunNumbered (stepRefusal image limits memory) (r .answer)
+  run-answered budget regs memory r memory′ e =
+      (e, subst (λ (x : Ran × List ℕ). RunNumbered (stepRefusal image limits memory) (x .0 .answer)) e (run-number budget regs memory))

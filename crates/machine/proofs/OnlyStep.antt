@@ -6,7 +6,8 @@ use lib.Dec.{eqb}
 use Rattle.numbers.proofs.Checking.{by-test}
 use Rattle.image.specs.declared.Limits.{Limits}
 use Rattle.machine.specs.Step.{Result, result, stepRefusal, stepped}
-use Rattle.machine.specs.Run.{afterStep, noStepsLeft, ran, onlyStep}
+use Rattle.machine.specs.Run.{afterStep, noStepsLeft, ran}
+use Rattle.machine.specs.Internal.{onlyStep}
 use Rattle.machine.specs.declared.Registers.{Registers}
 use Rattle.machine.specs.declared.StepAnswer.{StepAnswer}
 use Rattle.machine.specs.declared.StepAnswer.the-variants.{Made, Finished, Trap, Refused}

@@ -8,7 +8,7 @@ use borrow.Author.Tests.{eqb-true, eqb-false}
 use Rattle.numbers.proofs.Checking.{by-test}
 use Rattle.image.specs.declared.Limits.{Limits}
 use Rattle.machine.specs.Step.{stepRefusal, stepped}
-use Rattle.machine.specs.Run.{ended, oneMore, afterStep, noStepsLeft, ran, Says, Told}
+use Rattle.machine.specs.Run.{ended, moreSteps, afterStep, noStepsLeft, ran, Says, Told}
 use Rattle.machine.specs.declared.Registers.{Registers}
 use Rattle.machine.specs.declared.StepAnswer.{StepAnswer}
 use Rattle.machine.specs.declared.StepAnswer.the-variants as Step
@@ -18,7 +18,7 @@ use Rattle.machine.specs.declared.Ran.{Ran}
 use Rattle.machine.proofs.StepEffect.{finished-step}
 
 -- one step more
-more : (budget : ℕ) (r : Ran × List ℕ) (answer : RunAnswer) → Says budget (r .0) answer → Says (suc budget) (oneMore r .0) answer
+more : (budget : ℕ) (r : Ran × List ℕ) (answer : RunAnswer) → Says budget (r .0) answer → Says (suc budget) (moreSteps 1 r .0) answer
 more budget r Finished h = h
 more budget r Spent h = (add-one (r .0 .steps) ∙ ap suc (h .0), h .1)
 more budget r (Trap number) h = tt

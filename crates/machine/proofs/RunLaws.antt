@@ -1,6 +1,6 @@
 -- A run, one step at a time: what its loop has still to do, with the steps already made.
 use Prim.Native.Nat.{ℕ, zero, suc, _+_}
-use mathlib.Core.Path.{_≡_, sym, ap, _∙_, subst}
+use mathlib.Core.Path.{_≡_, refl, sym, ap, _∙_, subst}
 use mathlib.Core.Bool.{cond}
 use mathlib.Core.List.{List}
 use native.Mathlib.Numerals.{add-one}
@@ -10,29 +10,25 @@ use lib.Dec.{eqb}
 use borrow.Author.Tests.{eq-eqb, ne-eqb}
 use Rattle.image.specs.declared.Limits.{Limits}
 use Rattle.machine.specs.Step.{Result, result, stepValid, stepRefusal}
-use Rattle.machine.specs.Run.{noStepsLeft, afterStep, oneMore, ran}
+use Rattle.machine.specs.Run.{noStepsLeft, moreSteps, afterStep, ran}
 use Rattle.machine.specs.declared.Registers.{Registers}
 use Rattle.machine.specs.declared.StepAnswer.the-variants as Step
 use Rattle.machine.specs.declared.Stepped.{Stepped}
 use Rattle.machine.specs.declared.RunAnswer.{RunAnswer}
 use Rattle.machine.specs.declared.RunAnswer.the-variants.{Finished, Spent, Trap, Refused}
 use Rattle.machine.specs.declared.Ran.{Ran}
-use Rattle.machine.proofs.StepLaws.{step-refused, step-valid}
+use Rattle.machine.proofs.StepLaws.{step-refused, step-valid, finished}
 use Rattle.machine.proofs.StepEffect.{kept-step, not-made-finished, not-made-trap, not-made-refused}
 
 abbrev pub stopped : RunAnswer → Registers → ℕ → List ℕ → Ran × List ℕ
 stopped answer regs k memory = (record { answer = answer; registers = regs; steps = k }, memory)
 
--- k steps and then a run
-abbrev pub after : ℕ → Ran × List ℕ → Ran × List ℕ
-after k r = stopped (r .0 .answer) (r .0 .registers) (r .0 .steps + k) (r .1)
-
-pub after-none : (r : Ran × List ℕ) → after 0 r ≡ r
+pub after-none : (r : Ran × List ℕ) → moreSteps 0 r ≡ r
 after-none r = ap (λ n. stopped (r .0 .answer) (r .0 .registers) n (r .1)) (add-zero (r .0 .steps))
 
-after-one : (k : ℕ) (r : Ran × List ℕ) → after k (oneMore r) ≡ after (k + 1) r
-after-one k r =
-    let e : r .0 .steps + 1 + k ≡ r .0 .steps + (k + 1) = omega arith in
+pub after-both : (j k n : ℕ) (r : Ran × List ℕ) → n ≡ j + k → moreSteps j (moreSteps k r) ≡ moreSteps n r
+after-both j k n r sum =
+    let e : r .0 .steps + k + j ≡ r .0 .steps + n = omega arith in
     ap (λ n. stopped (r .0 .answer) (r .0 .registers) n (r .1)) e
 
 -- a run that is refused makes no step
@@ -43,17 +39,25 @@ unfolding ran noStepsLeft
 refused-at-once zero image limits regs memory number h = rw (h .0, ne-eqb number 0 (h .1))
 refused-at-once (suc budget) image limits regs memory number h = rw (step-refused image limits regs memory number (h .0) (h .1))
 
+-- nor does one that begins at PC 0
+pub finished-at-once : (budget : ℕ) (image : List ℕ) (limits : Limits) (regs : Registers) (memory : List ℕ) →
+    stepRefusal image limits memory ≡ 0 → regs .pc ≡ 0 → ran budget image limits regs memory ≡ stopped Finished regs 0 memory
+unfolding ran noStepsLeft
+finished-at-once zero image limits regs memory valid at-zero = rw (valid, eq-eqb _ _ at-zero)
+finished-at-once (suc budget) image limits regs memory valid at-zero =
+    rw (step-valid image limits regs memory valid, finished image limits regs memory (eq-eqb _ _ at-zero))
+
 module _ (image : List ℕ) (limits : Limits) (k : ℕ) (regs : Registers) (memory : List ℕ) (valid : stepRefusal image limits memory ≡ 0) where
   -- no steps are left
   run-out : (left : ℕ) → left ≡ 0 →
-      after k (ran left image limits regs memory) ≡ stopped (cond (eqb (regs .pc) 0) Finished Spent) regs k memory
+      moreSteps k (ran left image limits regs memory) ≡ stopped (cond (eqb (regs .pc) 0) Finished Spent) regs k memory
   unfolding ran noStepsLeft
   run-out left none = rw (none, valid, zero-add)
 
-  pub out-finished : (left : ℕ) → left ≡ 0 → regs .pc ≡ 0 → after k (ran left image limits regs memory) ≡ stopped Finished regs k memory
+  pub out-finished : (left : ℕ) → left ≡ 0 → regs .pc ≡ 0 → moreSteps k (ran left image limits regs memory) ≡ stopped Finished regs k memory
   out-finished left none at-zero = run-out left none ∙ rw (eq-eqb _ _ at-zero)
 
-  pub out-spent : (left : ℕ) → left ≡ 0 → (regs .pc ≡ 0 → ⊥) → after k (ran left image limits regs memory) ≡ stopped Spent regs k memory
+  pub out-spent : (left : ℕ) → left ≡ 0 → (regs .pc ≡ 0 → ⊥) → moreSteps k (ran left image limits regs memory) ≡ stopped Spent regs k memory
   out-spent left none on = run-out left none ∙ rw (ne-eqb _ _ on)
 
   -- a step is left
@@ -63,8 +67,8 @@ module _ (image : List ℕ) (limits : Limits) (k : ℕ) (regs : Registers) (memo
     one-step = rw (one, add-one, step-valid image limits regs memory valid, is)
 
     pub run-on : s .answer ≡ Step.Made →
-        after k (ran left image limits regs memory) ≡ after (k + 1) (ran rest image limits (s .registers) memory′)
-    run-on made = ap (after k) one-step ∙ rw made (after-one k (ran rest image limits (s .registers) memory′))
+        moreSteps k (ran left image limits regs memory) ≡ moreSteps (k + 1) (ran rest image limits (s .registers) memory′)
+    run-on made = ap (moreSteps k) one-step ∙ rw made (after-both k 1 (k + 1) (ran rest image limits (s .registers) memory′) refl)
 
     unmade : (s .answer ≡ Step.Made → ⊥) → _≡_ {A = Result} (s, memory′) (result (s .answer) regs memory)
     unmade other =
@@ -76,20 +80,20 @@ module _ (image : List ℕ) (limits : Limits) (k : ℕ) (regs : Registers) (memo
     -- it is not made, so the run stops there
     stops : (answer : RunAnswer) → (s .answer ≡ Step.Made → ⊥) →
         afterStep (s .answer) regs memory (ran rest image limits (s .registers) memory′) ≡ stopped answer regs 0 memory →
-        after k (ran left image limits regs memory) ≡ stopped answer (s .registers) k memory′
+        moreSteps k (ran left image limits regs memory) ≡ stopped answer (s .registers) k memory′
     stops answer other e =
         let registers : s .registers ≡ regs = ap (λ r. r .0 .registers) (unmade other) in
         let same : memory′ ≡ memory = ap (λ r. r .1) (unmade other) in
-        ap (after k) (one-step ∙ e) ∙ rw (registers, same, zero-add)
+        ap (moreSteps k) (one-step ∙ e) ∙ rw (registers, same, zero-add)
 
-    pub run-finished : s .answer ≡ Step.Finished → after k (ran left image limits regs memory) ≡ stopped Finished (s .registers) k memory′
+    pub run-finished : s .answer ≡ Step.Finished → moreSteps k (ran left image limits regs memory) ≡ stopped Finished (s .registers) k memory′
     run-finished e = stops Finished (λ m. not-made-finished (sym e ∙ m)) (rw e)
 
-    pub run-trapped : (n : ℕ) → s .answer ≡ Step.Trap n → after k (ran left image limits regs memory) ≡ stopped (Trap n) (s .registers) k memory′
+    pub run-trapped : (n : ℕ) → s .answer ≡ Step.Trap n → moreSteps k (ran left image limits regs memory) ≡ stopped (Trap n) (s .registers) k memory′
     run-trapped n e = stops (Trap n) (λ m. not-made-trap n (sym e ∙ m)) (rw e)
 
     pub run-refused : (n : ℕ) → s .answer ≡ Step.Refused n →
-        after k (ran left image limits regs memory) ≡ stopped (Refused n) (s .registers) k memory′
+        moreSteps k (ran left image limits regs memory) ≡ stopped (Refused n) (s .registers) k memory′
     run-refused n e = stops (Refused n) (λ m. not-made-refused n (sym e ∙ m)) (rw e)
 
 -- what a loop that has stopped leaves is what the run is

@@ -2,23 +2,18 @@
 use Prim.Native.Nat.{ℕ, _+_, _-_, _<_}
 use mathlib.Core.Path.{_≡_, refl, sym, _∙_}
 use mathlib.Core.Bool.{Bool, true, false}
-use mathlib.Core.List.{List, [], _∷_}
+use mathlib.Core.List.{List}
 use mathlib.Core.Logic.{_⊎_, inl, inr, ⊎-elim}
 use native.Mathlib.Omega.{arith}
 use native.Mathlib.Nat.{mod-eq-of-lt}
 use lib.Dec.{eqb}
-use lib.ListN.{getD, length, drop}
-use lib.Seq.{sets}
+use lib.ListN.{length}
 use borrow.Author.Tests.{eqb-true, ltb-true}
 use Rattle.numbers.specs.Checks.{first}
-use Rattle.numbers.specs.Words.{high, low}
 use Rattle.numbers.proofs.Checking.{by-test, first-zero, under-zero, differ-zero, unless-zero}
 use Rattle.numbers.proofs.Folding.{passed}
-use Rattle.stm8.specs.Decoding.{decoded}
-use Rattle.stm8.specs.Effects.{effect}
-use Rattle.stm8.specs.declared.Width.{Width}
-use Rattle.stm8.specs.declared.Place.{Place}
-use Rattle.stm8.specs.declared.Place.the-variants.{Nowhere, Direct, OnStack, Pushed}
+use Rattle.stm8.specs.Effects.{effect, isCall}
+use Rattle.stm8.specs.declared.Width.the-variants.{Word}
 use Rattle.stm8.specs.declared.Flow.{Flow}
 use Rattle.stm8.specs.declared.Flow.the-variants.{Next, Branch, Jump, Call, CallRelative, Return}
 use Rattle.stm8.specs.declared.Effect.{Effect}
@@ -26,34 +21,21 @@ use Rattle.stm8.specs.declared.Instruction.{Instruction}
 use Rattle.stm8.specs.declared.Decoded.{Decoded}
 use Rattle.stm8.specs.declared.Decoded.the-variants.{Found, Outside, Truncated}
 use Rattle.image.specs.declared.Limits.{Limits}
-use Rattle.image.specs.Image.{baseOf, codeOf, layoutOf}
+use Rattle.image.specs.Image.{baseOf, layoutOf}
 use Rattle.image.specs.Rules.{LimitsRules}
 use Rattle.image.specs.Validation.{validated}
 use Rattle.image.proofs.Layouts.{valid-limits}
+use Rattle.code.specs.Code.{instructionIn}
 use Rattle.machine.specs.Reading.{readWord}
 use Rattle.machine.specs.Computing.{computed}
-use Rattle.machine.specs.Step.{Result, result, spTrap, pcTrap, moveTrap, isCall, callTrap, effectTrap, spAfter, pcAfter, bytesOfWidth}
-use Rattle.machine.specs.Step.{memoryAfter, made, decodedStep, stepValid, stepRefusal, stepped}
-use Rattle.machine.specs.Changes.{Covers, Names, GoesTo, Changes, MadeStep}
+use Rattle.machine.specs.Step.{Result, result, spTrap, pcTrap, moveTrap, callTrap, effectTrap, spAfter, pcAfter, bytesFrom}
+use Rattle.machine.specs.Step.{storedAt, memoryAfter, made, decodedStep, stepValid, stepRefusal, stepped}
+use Rattle.machine.specs.Changes.{GoesTo, Changes, MadeStep}
 use Rattle.machine.specs.declared.Registers.{Registers}
 use Rattle.machine.specs.declared.StepAnswer.the-variants.{Made, Finished, Trap, Refused}
-use Rattle.machine.proofs.Stores.{sets-other, word-stored, pushed-word, read-memory, bytes-length, size-kept}
+use Rattle.machine.proofs.Stores.{stored-other, size-kept, word-stored, pushed-word, read-memory}
 use Rattle.machine.proofs.StepLaws.{pops-fit}
 use Rattle.machine.proofs.EffectForms.{effect-form, call-form}
-
--- memory: the bytes that a place does not name
-stored-other : (memory : List ℕ) (at : ℕ) (w : Width) (value address : ℕ) → (Covers at w address → ⊥) →
-    getD (sets memory at (bytesOfWidth w value)) address 0 ≡ getD memory address 0
-stored-other memory at w value address outside =
-    sets-other (bytesOfWidth w value) memory at address (λ low high. outside (low, omega (arith, bytes-length w value)))
-
-other-bytes : (memory : List ℕ) (sp : ℕ) (e : Effect) (value : ℕ) (place : Place) (address : ℕ) → (Names sp (spAfter sp e) place address → ⊥) →
-    getD (memoryAfter memory sp e value place) address 0 ≡ getD memory address 0
-unfolding memoryAfter
-other-bytes memory sp e value Nowhere address outside = refl
-other-bytes memory sp e value (Direct a w) address outside = stored-other memory a w value address outside
-other-bytes memory sp e value (OnStack f w) address outside = stored-other memory (sp + f) w value address outside
-other-bytes memory sp e value (Pushed w) address outside = stored-other memory (spAfter sp e + 1) w value address outside
 
 -- PC
 goes-to : (image memory : List ℕ) (sp next : ℕ) (taken : Bool) (flow : Flow) →
@@ -104,8 +86,8 @@ module _ (image : List ℕ) (limits : Limits) (regs : Registers) (memory : List 
         let at = spAfter (regs .sp) e + 1 in
         let inside : at + 1 < 0x8000 = omega (arith, areas-hold .stack .high, form .0, form .1) in
         rw (
-          pushed-word memory (regs .sp) e value (e .place) (form .2),
-          read-memory image (sets memory at (high value ∷ low value ∷ [])) at inside,
+          pushed-word (regs .sp) (spAfter (regs .sp) e) (e .place) (form .2),
+          read-memory image (memoryAfter memory (bytesFrom at Word) value) at inside,
           word-stored memory at value (omega (arith, memory-size)),
         )
         (form .3 ∙ mod-eq-of-lt (next-word limits areas-hold (regs .sp) next e allowed call))
@@ -117,8 +99,8 @@ module _ (image : List ℕ) (limits : Limits) (regs : Registers) (memory : List 
         record {
           sp = sp-moves limits areas-hold (regs .sp) next (effect i) allowed;
           pc = goes-to image memory (regs .sp) next (c .taken) (effect i .flow);
-          size = size-kept memory (regs .sp) (effect i) (c .stored) (effect i .place);
-          bytes = other-bytes memory (regs .sp) (effect i) (c .stored) (effect i .place);
+          size = size-kept memory (storedAt (regs .sp) (spAfter (regs .sp) (effect i)) (effect i .place)) (c .stored);
+          bytes = stored-other memory (storedAt (regs .sp) (spAfter (regs .sp) (effect i)) (effect i .place)) (c .stored);
           pushed = next-pushed;
         }
 
@@ -156,7 +138,7 @@ module _ (image : List ℕ) (limits : Limits) (regs : Registers) (memory : List 
   trap-keeps n = inl (record { answer = not-made-trap n; finished = λ h. absurd (not-finished-trap n h); is = refl })
 
   module _ (valid : stepRefusal image limits memory ≡ 0) where
-    made-way : (i : Instruction) (n : ℕ) → decoded (drop (regs .pc - baseOf image) (codeOf image)) ≡ Found i n →
+    made-way : (i : Instruction) (n : ℕ) → instructionIn image (regs .pc - baseOf image) ≡ Found i n →
         effectTrap limits (regs .sp) (regs .pc + n) (effect i) ≡ 0 → Way (made image regs memory (regs .pc + n) i)
     unfolding made
     made-way i n found allowed =
@@ -172,7 +154,7 @@ module _ (image : List ℕ) (limits : Limits) (regs : Registers) (memory : List 
               };
         })
 
-    decoded-way : (d : Decoded) → decoded (drop (regs .pc - baseOf image) (codeOf image)) ≡ d → Way (decodedStep image limits regs memory d)
+    decoded-way : (d : Decoded) → instructionIn image (regs .pc - baseOf image) ≡ d → Way (decodedStep image limits regs memory d)
     unfolding decodedStep
     decoded-way Outside e = trap-keeps 23
     decoded-way Truncated e = trap-keeps 22

@@ -6,13 +6,11 @@ use mathlib.Core.List.{List, [], _∷_}
 use mathlib.Core.Logic.{⊎-elim}
 use native.Mathlib.Omega.{arith}
 use lib.Dec.{eqb}
-use lib.ListN.{length, drop}
-use lib.Seq.{drop-drop}
+use lib.ListN.{length}
 use borrow.Author.Tests.{ne-eqb}
 use Rattle.numbers.specs.Checks.{first, under}
 use Rattle.numbers.proofs.Checking.{first-zero, under-zero}
 use Rattle.numbers.proofs.Folding.{passed}
-use Rattle.stm8.specs.Decoding.{decoded}
 use Rattle.stm8.specs.Effects.{effect}
 use Rattle.stm8.specs.declared.Effect.{Effect}
 use Rattle.stm8.specs.declared.Instruction.{Instruction}
@@ -21,11 +19,12 @@ use Rattle.stm8.specs.declared.Decoded.the-variants.{Found, Outside, Truncated}
 use Rattle.image.specs.declared.Limits.{Limits}
 use Rattle.image.specs.declared.Layout.{Layout}
 use Rattle.image.specs.declared.Validated.the-variants as Validated
-use Rattle.image.specs.Image.{baseOf, codeAt, codeOf, layoutOf}
+use Rattle.image.specs.Image.{baseOf, layoutOf}
 use Rattle.image.specs.Validation.{answer, validated}
 use Rattle.image.specs.ValidLayout.{ValidLayout}
 use Rattle.image.proofs.Layouts.{valid-bounds}
 use Rattle.image.proofs.Validity.{answer-refused, answer-valid}
+use Rattle.code.specs.Code.{instructionIn}
 use Rattle.machine.specs.Computing.{computed}
 use Rattle.machine.specs.Step.{result, spTrap, pcTrap, moveTrap, effectTrap, madeBy, made, decodingTrap, decodedStep, stepValid}
 use Rattle.machine.specs.Step.{stepRefusal, stepped}
@@ -56,7 +55,7 @@ module _ (image : List ℕ) (limits : Limits) (regs : Registers) (memory : List 
 
   pub decodes : eqb (regs .pc) 0 ≡ false →
       (trap : ℕ) → trap ≡ first (spTrap limits (regs .sp)) (pcTrap image (regs .pc)) → eqb trap 0 ≡ true →
-      stepValid image limits regs memory ≡ decodedStep image limits regs memory (decoded (drop (regs .pc - baseOf image) (codeOf image)))
+      stepValid image limits regs memory ≡ decodedStep image limits regs memory (instructionIn image (regs .pc - baseOf image))
   unfolding stepValid
   decodes on trap is none = rw (on, ← is, none)
 
@@ -116,15 +115,7 @@ module _ (image : List ℕ) (layout : Layout) (is : layout ≡ layoutOf image) (
       let below : pc + 1 ≤ layout .base + layout .size = under-zero _ _ 21 (checks .1) in
       (under-zero _ _ 21 (checks .0), omega arith)
 
-  pub code-from : drop (layout .code + (pc - layout .base)) image ≡ drop (pc - baseOf image) (codeOf image)
-  unfolding layoutOf codeOf
-  code-from =
-      ap (λ (l : Layout). drop (l .code + (pc - l .base)) image) is ∙ sym (drop-drop (pc - baseOf image) (codeAt image) image)
-
 module _ (image : List ℕ) (layout : Layout) (valid : ValidLayout image layout) (pc : ℕ) (inside : pcTrap image pc ≡ 0) where
-  pub index-inside : layout .code + (pc - layout .base) ≤ length image
-  index-inside = let bounds = pc-inside image layout (valid .is) pc inside in omega (arith, valid .end)
-
   pub next-small : (n : ℕ) → n ≤ 5 → pc + n < 0x1000000
   next-small n few = let bounds = pc-inside image layout (valid .is) pc inside in omega (arith, valid .top)
 

@@ -1,36 +1,26 @@
 -- What a made step changes, seen from the effect of its instruction alone: SP, PC and memory. A, X, Y and CC are what the instruction computes.
-use Prim.Native.Nat.{ℕ, _+_, _-_, _≤_, _<_}
+use Prim.Native.Nat.{ℕ, _+_, _-_}
 use mathlib.Core.Path.{_≡_}
 use mathlib.Core.Bool.{true}
 use mathlib.Core.Logic.{_⊎_}
-use mathlib.Core.List.{List}
-use lib.ListN.{length, getD, drop}
-use Rattle.stm8.specs.Decoding.{decoded}
-use Rattle.stm8.specs.Effects.{relative, bytesWide, effect}
-use Rattle.stm8.specs.declared.Width.{Width}
-use Rattle.stm8.specs.declared.Place.{Place}
-use Rattle.stm8.specs.declared.Place.the-variants.{Nowhere, Direct, OnStack, Pushed}
+use mathlib.Core.List.{List, [], _∷_}
+use lib.ListN.{length, getD}
+use Rattle.stm8.specs.Effects.{relative, effect, isCall}
 use Rattle.stm8.specs.declared.Flow.{Flow}
 use Rattle.stm8.specs.declared.Flow.the-variants.{Next, Branch, Jump, Call, CallRelative, Return}
 use Rattle.stm8.specs.declared.Effect.{Effect}
 use Rattle.stm8.specs.declared.Instruction.{Instruction}
 use Rattle.stm8.specs.declared.Decoded.the-variants.{Found}
-use Rattle.image.specs.Image.{baseOf, codeOf}
+use Rattle.image.specs.Image.{baseOf}
+use Rattle.code.specs.Code.{instructionIn}
 use Rattle.machine.specs.Reading.{readWord}
-use Rattle.machine.specs.Step.{isCall}
+use Rattle.machine.specs.Step.{storedAt}
 use Rattle.machine.specs.declared.Registers.{Registers}
 
--- an address is among the bytes of a width from another on
-abbrev pub Covers : ℕ → Width → ℕ → Type 0
-Covers from w address = (from ≤ address) × (address < from + bytesWide w)
-
--- an address is among the bytes that a place names, by SP before and after: those of a direct address, those of an offset from SP, or those
--- pushed, which lie just above the new SP
-abbrev pub Names : ℕ → ℕ → Place → ℕ → Type 0
-Names sp spAfter Nowhere address = ⊥
-Names sp spAfter (Direct a w) address = Covers a w address
-Names sp spAfter (OnStack f w) address = Covers (sp + f) w address
-Names sp spAfter (Pushed w) address = Covers (spAfter + 1) w address
+-- an address is one of a list
+abbrev pub Among : ℕ → List ℕ → Type 0
+Among address [] = ⊥
+Among address (a ∷ more) = (address ≡ a) ⊎ Among address more
 
 -- where PC is after a flow: a return goes to the word that is popped, anything else goes by the next address
 abbrev pub GoesTo : ℕ → ℕ → Flow → ℕ → Type 0
@@ -47,8 +37,8 @@ pub record Changes (image : List ℕ) (next : ℕ) (e : Effect) (regs : Register
   pub sp : regs′ .sp + e .pushes ≡ regs .sp + e .pops
   pub pc : GoesTo next (readWord image memory (regs .sp + 1)) (e .flow) (regs′ .pc)
   pub size : length memory′ ≡ length memory
-  -- no byte of memory changes but those that the place names
-  pub bytes : (address : ℕ) → (Names (regs .sp) (regs′ .sp) (e .place) address → ⊥) → getD memory′ address 0 ≡ getD memory address 0
+  -- no byte of memory changes but those that the place stores
+  pub bytes : (address : ℕ) → (Among address (storedAt (regs .sp) (regs′ .sp) (e .place)) → ⊥) → getD memory′ address 0 ≡ getD memory address 0
   -- a call pushes the next address
   pub pushed : isCall (e .flow) ≡ true → readWord image memory′ (regs′ .sp + 1) ≡ next
 
@@ -56,5 +46,5 @@ pub record Changes (image : List ℕ) (next : ℕ) (e : Effect) (regs : Register
 pub record MadeStep (image : List ℕ) (regs : Registers) (memory : List ℕ) (regs′ : Registers) (memory′ : List ℕ) : Type 0 where
   pub instruction : Instruction
   pub size : ℕ
-  pub found : decoded (drop (regs .pc - baseOf image) (codeOf image)) ≡ Found instruction size
+  pub found : instructionIn image (regs .pc - baseOf image) ≡ Found instruction size
   pub changes : Changes image (regs .pc + size) (effect instruction) regs memory regs′ memory′

@@ -3,3 +3,4 @@ pub mod Computing
 pub mod Step
 pub mod Run
 pub mod Changes
+pub mod Internal

@@ -1,17 +1,14 @@
 -- One step: 17 and 1 to 4, then finished, then the traps in document 01's order, then made.
 use Prim.Native.Nat.{ℕ, _+_, _-_, _≤_}
 use mathlib.Core.Path.{_≡_}
-use mathlib.Core.Bool.{Bool, true, false, cond}
-use mathlib.Core.Logic.{_⊎_}
+use mathlib.Core.Bool.{Bool, cond}
 use mathlib.Core.List.{List, [], _∷_}
 use lib.Dec.{eqb, ltb}
-use lib.ListN.{length, drop}
-use lib.Seq.{sets}
+use lib.ListN.{length, set}
 use Rattle.numbers.specs.Checks.{first, under, unless, differ}
 use Rattle.numbers.specs.Folds.{firstIn}
 use Rattle.numbers.specs.Words.{high, low}
-use Rattle.stm8.specs.Decoding.{decoded}
-use Rattle.stm8.specs.Effects.{relative, bytesWide, effect}
+use Rattle.stm8.specs.Effects.{relative, bytesWide, effect, isCall}
 use Rattle.stm8.specs.declared.Width.{Width}
 use Rattle.stm8.specs.declared.Width.the-variants.{Byte, Word}
 use Rattle.stm8.specs.declared.Place.{Place}
@@ -24,8 +21,9 @@ use Rattle.stm8.specs.declared.Decoded.{Decoded}
 use Rattle.stm8.specs.declared.Decoded.the-variants.{Found, Outside, Truncated}
 use Rattle.image.specs.declared.Limits.{Limits}
 use Rattle.image.specs.Access.{granted}
-use Rattle.image.specs.Image.{baseOf, codeOf, sizeOf}
+use Rattle.image.specs.Image.{baseOf, sizeOf}
 use Rattle.image.specs.Validation.{refusal}
+use Rattle.code.specs.Code.{instructionIn}
 use Rattle.machine.specs.Reading.{readWord}
 use Rattle.machine.specs.Computing.{computed}
 use Rattle.machine.specs.declared.Registers.{Registers}
@@ -61,14 +59,6 @@ storeTrap limits sp (Direct a w) = unless (granted limits a (bytesWide w)) 25
 storeTrap limits sp (OnStack f w) = first (under f 1 25) (under (limits .stack .high + 1) (sp + f + bytesWide w) 25)
 storeTrap limits sp (Pushed w) = 0
 
-abbrev pub isCall : Flow → Bool
-isCall Next = false
-isCall (Branch n) = false
-isCall (Jump n) = false
-isCall (Call a) = true
-isCall (CallRelative n) = true
-isCall Return = false
-
 -- 22, a call whose next address is 10000: after 25 was tested
 unfoldable pub callTrap : ℕ → Flow → ℕ
 callTrap next flow = cond (isCall flow) (unless (ltb next 0x10000) 22) 0
@@ -89,17 +79,23 @@ pcAfter image memory sp next taken (Call a) = a
 pcAfter image memory sp next taken (CallRelative n) = relative next n
 pcAfter image memory sp next taken Return = readWord image memory (sp + 1)
 
--- the bytes of a value, high byte first
-abbrev pub bytesOfWidth : Width → ℕ → List ℕ
-bytesOfWidth Byte value = low value ∷ []
-bytesOfWidth Word value = high value ∷ low value ∷ []
+-- the addresses of a byte or a word from one on
+abbrev pub bytesFrom : ℕ → Width → List ℕ
+bytesFrom address Byte = address ∷ []
+bytesFrom address Word = address ∷ (address + 1) ∷ []
 
--- memory with a value stored at a place; what is pushed lies just above the new SP, so a word's high byte, pushed last, lies lower
-unfoldable pub memoryAfter : List ℕ → ℕ → Effect → ℕ → Place → List ℕ
-memoryAfter memory sp e value Nowhere = memory
-memoryAfter memory sp e value (Direct a w) = sets memory a (bytesOfWidth w value)
-memoryAfter memory sp e value (OnStack f w) = sets memory (sp + f) (bytesOfWidth w value)
-memoryAfter memory sp e value (Pushed w) = sets memory (spAfter sp e + 1) (bytesOfWidth w value)
+-- the addresses of the bytes that a place stores, lower first, by SP before and after: what is pushed lies just above the new SP
+unfoldable pub storedAt : ℕ → ℕ → Place → List ℕ
+storedAt sp after Nowhere = []
+storedAt sp after (Direct a w) = bytesFrom a w
+storedAt sp after (OnStack f w) = bytesFrom (sp + f) w
+storedAt sp after (Pushed w) = bytesFrom (after + 1) w
+
+-- memory with a value stored at them, two at most: its low byte, or both bytes, the high byte lower
+unfoldable pub memoryAfter : List ℕ → List ℕ → ℕ → List ℕ
+memoryAfter memory [] value = memory
+memoryAfter memory (a ∷ []) value = set memory a (low value)
+memoryAfter memory (a ∷ b ∷ more) value = set (set memory a (high value)) b (low value)
 
 abbrev pub registersAfter : List ℕ → List ℕ → Registers → ℕ → Computed → Effect → Registers
 registersAfter image memory regs next c e =
@@ -115,7 +111,7 @@ registersAfter image memory regs next c e =
 -- an instruction that no trap stops, by what it computes and its effect
 abbrev pub madeBy : List ℕ → Registers → List ℕ → ℕ → Computed → Effect → Result
 madeBy image regs memory next c e =
-    result Made (registersAfter image memory regs next c e) (memoryAfter memory (regs .sp) e (c .stored) (e .place))
+    result Made (registersAfter image memory regs next c e) (memoryAfter memory (storedAt (regs .sp) (spAfter (regs .sp) e) (e .place)) (c .stored))
 
 unfoldable pub made : List ℕ → Registers → List ℕ → ℕ → Instruction → Result
 made image regs memory next i = madeBy image regs memory next (computed image memory regs next i) (effect i)
@@ -140,7 +136,7 @@ stepValid image limits regs memory =
     let trap = first (spTrap limits (regs .sp)) (pcTrap image (regs .pc)) in
     cond (eqb (regs .pc) 0) (result Finished regs memory)
     (cond (eqb trap 0)
-    (decodedStep image limits regs memory (decoded (drop (regs .pc - baseOf image) (codeOf image))))
+    (decodedStep image limits regs memory (instructionIn image (regs .pc - baseOf image)))
     (result (Trap trap) regs memory))
 
 -- 17, memory not 32,768 bytes, then 1 to 4
@@ -152,15 +148,16 @@ stepped image limits regs memory =
     let number = stepRefusal image limits memory in
     cond (eqb number 0) (stepValid image limits regs memory) (result (Refused number) regs memory)
 
--- document 01's number of an answer: 0 where nothing was refused or trapped
+-- the number of an answer: document 01's, and where it has none 0 made and 64 finished, which it gives to no refusal or trap
 abbrev pub stepNumber : StepAnswer → ℕ
 stepNumber Made = 0
-stepNumber Finished = 0
+stepNumber Finished = 64
 stepNumber (Trap number) = number
 stepNumber (Refused number) = number
 
--- what that number says of a step: the refusal's where there is one, else a trap's, and 0 where it is made or finished
+-- what that number tells of a step: the refusal's where there is one, else 0 made, 64 finished, or a trap's
 pub record StepNumbered (refused : ℕ) (answer : StepAnswer) : Type 0 where
   pub refusal : (refused ≡ 0 → ⊥) → stepNumber answer ≡ refused
-  pub trap : refused ≡ 0 → (stepNumber answer ≡ 0 → ⊥) → (21 ≤ stepNumber answer) × (stepNumber answer ≤ 25)
-  pub none : stepNumber answer ≡ 0 → (answer ≡ Made) ⊎ (answer ≡ Finished)
+  pub made : stepNumber answer ≡ 0 → answer ≡ Made
+  pub finished : stepNumber answer ≡ 64 → answer ≡ Finished
+  pub trap : refused ≡ 0 → (stepNumber answer ≡ 0 → ⊥) → (stepNumber answer ≡ 64 → ⊥) → (21 ≤ stepNumber answer) × (stepNumber answer ≤ 25)

@@ -1,23 +1,22 @@
 // What an instruction computes.
 ghost use mathlib.Core.Path.{_≡_};
-ghost use Rattle.arithmetic.specs.Bits.{isSet};
-ghost use Rattle.arithmetic.specs.BitOperations.{BTJ};
 ghost use Rattle.stm8.specs.IndexRegisters.{otherOf};
-ghost use Rattle.machine.specs.Computing.{testing, bitHolds, computed};
+ghost use Rattle.byte_operations.specs.BitOperations.{bitHolds, bitTested};
+ghost use Rattle.machine.specs.Computing.{testing, computed};
 use crate::Computed;
 use crate::Registers;
-use crate::operations::bit_holds;
 use crate::operations::half_of;
 use crate::operations::with_half;
 use crate::reading::read_byte;
 use crate::reading::read_word;
-use arithmetic::ByteResult;
-use arithmetic::WordResult;
-use arithmetic::accumulator::ld;
-use arithmetic::bits::btj;
-use arithmetic::bits::is_set;
-use arithmetic::words::ldw;
-use arithmetic::words::mul;
+use arithmetic::flags::with_nz_of_byte;
+use arithmetic::flags::with_nz_of_word;
+use byte_operations::ByteResult;
+use byte_operations::bit_holds;
+use byte_operations::bit_tested;
+use index_operations::WordResult;
+use index_operations::ldw;
+use index_operations::mul;
 use stm8::BitTest;
 use stm8::Instruction;
 use stm8::Register;
@@ -34,9 +33,9 @@ fn other_of(r: Register) -> Register
 impl Registers {
     // BTJT and BTJF, by the byte at their address.
     fn bit_jump(self, o: BitTest, position: u8, m: u8) -> Computed
-        ensures { λ r. ⌜ r ≡ testing self (bitHolds o (isSet position m)) (BTJ position m (self .cc)) ⌝ }
+        ensures { λ r. ⌜ r ≡ testing self (bitHolds o position m) (bitTested position m (self .cc)) ⌝ }
     {
-        self.testing(bit_holds(o, is_set(position, m)), btj(position, m, self.cc))
+        self.testing(bit_holds(o, position, m), bit_tested(position, m, self.cc))
     }
 
     // An instruction, with the address after it.
@@ -49,7 +48,7 @@ impl Registers {
         let after = (next % 0x10000) as u16;
         match i {
             Instruction::Alu(o, x) => self.with_a(self.alu(o, self.operand_byte(image, memory, x))),
-            Instruction::Store(_) => self.storing(a as u16, ld(a, cc).cc),
+            Instruction::Store(_) => self.storing(a as u16, with_nz_of_byte(a, cc)),
             Instruction::LoadHalf(r, h) => self.with_a(ByteResult {
                 value: half_of(h, self.index(r)),
                 cc,
@@ -69,7 +68,10 @@ impl Registers {
                 r,
                 ldw(self.operand_word(image, memory, x), cc),
             ),
-            Instruction::StoreWord(r, _) => self.storing(self.index(r), ldw(self.index(r), cc).cc),
+            Instruction::StoreWord(r, _) => self.storing(
+                self.index(r),
+                with_nz_of_word(self.index(r), cc),
+            ),
             Instruction::CopyWord(r) => self.with_index(
                 r,
                 WordResult {

@@ -10,8 +10,9 @@ mod stepping;
 mod traps;
 
 ghost use mathlib.Core.Path.{_≡_};
-ghost use Rattle.machine.specs.Step.{stepped};
-ghost use Rattle.machine.specs.Run.{ran, onlyStep};
+ghost use Rattle.machine.specs.Step.{stepRefusal, stepped, stepNumber, StepNumbered};
+ghost use Rattle.machine.specs.Run.{ran, runNumber, RunNumbered};
+ghost use Rattle.machine.specs.Internal.{onlyStep};
 use image::Limits;
 use image::Validated;
 
@@ -70,6 +71,7 @@ pub fn run(
     budget: u32,
 ) -> Ran
     ensures { λ r. ⌜ ran budget (now (image .entry)) limits registers (now (memory .entry)) ≡ (r, now (memory .exit)) ⌝ }
+    ensures { λ r. ⌜ RunNumbered (stepRefusal (now (image .entry)) limits (now (memory .entry))) (r .answer) ⌝ }
 {
     let validated = stepping::validate(image, limits, memory);
     match validated {
@@ -98,6 +100,31 @@ fn only_step(ran: Ran) -> Stepped
 // One step, from any registers and memory: a run of one, so that the run's loop alone holds the code of a step.
 pub fn step(image: &[u8], limits: Limits, registers: Registers, memory: &mut [u8]) -> Stepped
     ensures { λ r. ⌜ stepped (now (image .entry)) limits registers (now (memory .entry)) ≡ (r, now (memory .exit)) ⌝ }
+    ensures { λ r. ⌜ StepNumbered (stepRefusal (now (image .entry)) limits (now (memory .entry))) (r .answer) ⌝ }
 {
     only_step(run(image, limits, registers, memory, 1))
+}
+
+// The number of a step's answer: 0 made, 64 finished, else document 01's.
+pub fn step_number(answer: StepAnswer) -> u8
+    ensures { λ r. ⌜ r ≡ stepNumber answer ⌝ }
+{
+    match answer {
+        StepAnswer::Made => 0,
+        StepAnswer::Finished => 64,
+        StepAnswer::Trap(number) => number,
+        StepAnswer::Refused(number) => number,
+    }
+}
+
+// The number of a run's answer: 64 finished, 65 spent, else document 01's.
+pub fn run_number(answer: RunAnswer) -> u8
+    ensures { λ r. ⌜ r ≡ runNumber answer ⌝ }
+{
+    match answer {
+        RunAnswer::Finished => 64,
+        RunAnswer::Spent => 65,
+        RunAnswer::Trap(number) => number,
+        RunAnswer::Refused(number) => number,
+    }
 }

@@ -1,9 +1,8 @@
 // What an instruction moves: SP, PC and memory, by its effect.
 ghost use mathlib.Core.Path.{_≡_};
 ghost use Prim.Native.Nat.{_+_, _<_};
-ghost use lib.Seq.{sets};
 ghost use Rattle.stm8.specs.Effects.{relative as relativeTo};
-ghost use Rattle.machine.specs.Step.{bytesOfWidth, spAfter, pcAfter, memoryAfter, madeBy};
+ghost use Rattle.machine.specs.Step.{spAfter, pcAfter, bytesFrom, storedAt, memoryAfter, madeBy};
 use crate::Computed;
 use crate::Registers;
 use crate::StepAnswer;
@@ -18,9 +17,9 @@ use stm8::Flow;
 use stm8::Place;
 use stm8::Width;
 
-// The bytes of a value, high byte first.
+// A value's low byte, or both bytes, the high byte lower.
 fn put(memory: &mut [u8], at: u32, w: Width, value: u16)
-    ensures { λ _. ⌜ now (memory .exit) ≡ sets (now (memory .entry)) at (bytesOfWidth w value) ⌝ }
+    ensures { λ _. ⌜ now (memory .exit) ≡ memoryAfter (now (memory .entry)) (bytesFrom at w) value ⌝ }
 {
     match w {
         Width::Byte => put_byte(memory, at as usize, low(value)),
@@ -74,7 +73,7 @@ impl Registers {
     // Stores a value where the effect says; what is pushed lies just above the new SP.
     fn store(self, memory: &mut [u8], e: Effect, value: u16)
         requires { ⌜ self .sp + e .pops < 0x10000 ⌝ }
-        ensures { λ _. ⌜ now (memory .exit) ≡ memoryAfter (now (memory .entry)) (self .sp) e value (e .place) ⌝ }
+        ensures { λ _. ⌜ now (memory .exit) ≡ memoryAfter (now (memory .entry)) (storedAt (self .sp) (spAfter (self .sp) e) (e .place)) value ⌝ }
     {
         let place = e.place;
         match place {

@@ -8,7 +8,7 @@ use numbers::words::byte_at;
 use numbers::words::word;
 
 // 0000 to 7FFF from memory, the image's own addresses from its code, any other address gives 00.
-pub fn read_byte(image: &[u8], memory: &[u8], address: u32) -> u8
+pub(crate) fn read_byte(image: &[u8], memory: &[u8], address: u32) -> u8
     ensures { λ r. ⌜ r ≡ readByte (now (image .entry)) (now (memory .entry)) address ⌝ }
 {
     let at = address as usize;
@@ -23,7 +23,7 @@ pub fn read_byte(image: &[u8], memory: &[u8], address: u32) -> u8
 }
 
 // A word's high byte lies at the lower address.
-pub fn read_word(image: &[u8], memory: &[u8], address: u32) -> u16
+pub(crate) fn read_word(image: &[u8], memory: &[u8], address: u32) -> u16
     requires { ⌜ address < 0x1000000 ⌝ }
     ensures { λ r. ⌜ r ≡ readWord (now (image .entry)) (now (memory .entry)) address ⌝ }
 {

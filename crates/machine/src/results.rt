@@ -4,8 +4,8 @@ ghost use Rattle.machine.specs.Computing.{unchanged as unchangedOf, with
 ghost use Rattle.machine.specs.Computing.{storing as storingOf, testing as testingOf, intoOperand};
 use crate::Computed;
 use crate::Registers;
-use arithmetic::ByteResult;
-use arithmetic::WordResult;
+use byte_operations::ByteResult;
+use index_operations::WordResult;
 use stm8::Operand;
 use stm8::Register;
 

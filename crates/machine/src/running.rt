@@ -22,7 +22,7 @@ impl Registers {
         }
     }
 
-    // The length tables are built once and lent to each step.
+    // The lengths are built once and lent to each step.
     pub(crate) fn run(
         self,
         image: &[u8],
@@ -35,9 +35,7 @@ impl Registers {
         requires passes { ⌜ stepRefusal (now image) limits (now memory) ≡ 0 ⌝ }
         ensures { λ r. ⌜ ran budget (now (image .entry)) limits self (now (memory .entry)) ≡ (r, now (memory .exit)) ⌝ }
     {
-        let plain = stm8::plain_lengths();
-        let after_72 = stm8::after_72_lengths();
-        let after_90 = stm8::after_90_lengths();
+        let lengths = stm8::map_lengths();
         let mut registers = self;
         let mut left = budget;
         let answer = loop {
@@ -47,15 +45,7 @@ impl Registers {
                 }
                 break RunAnswer::Spent;
             }
-            let stepped = registers.step(
-                image,
-                layout,
-                limits,
-                memory,
-                &plain,
-                &after_72,
-                &after_90,
-            );
+            let stepped = registers.step(image, layout, limits, memory, &lengths);
             let outcome = stepped.answer;
             registers = stepped.registers;
             match outcome {

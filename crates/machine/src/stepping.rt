@@ -1,11 +1,11 @@
 // A step of an image and limits that are valid.
 ghost use mathlib.Core.Path.{_≡_};
 ghost use Prim.Native.Nat.{_+_, _-_, _<_};
-ghost use lib.ListN.{drop};
-ghost use Rattle.stm8.specs.Decoding.{decoded as decodedOf, Tables};
-ghost use Rattle.image.specs.Image.{layoutOf, baseOf, codeOf};
+ghost use Rattle.image.specs.Image.{versionOf, baseOf, layoutOf};
 ghost use Rattle.image.specs.Validation.{answer as answerOf};
 ghost use Rattle.image.specs.ValidLayout.{ValidLayout};
+ghost use Rattle.code.specs.Set.{lengthsFor};
+ghost use Rattle.code.specs.Code.{instructionIn};
 ghost use Rattle.machine.specs.Step.{pcTrap, decodingTrap, decodedStep, stepValid, stepRefusal};
 use crate::Registers;
 use crate::StepAnswer;
@@ -13,7 +13,7 @@ use crate::Stepped;
 use crate::traps::effect_trap;
 use crate::traps::pc_trap;
 use crate::traps::sp_trap;
-use decoder::decode_by;
+use code::decode_at;
 use effects::effect_of;
 use image::Layout;
 use image::Limits;
@@ -23,7 +23,7 @@ use stm8::Decoded;
 use stm8::Instruction;
 
 // 17, memory not 32,768 bytes, then 1 to 4.
-pub fn validate(image: &[u8], limits: Limits, memory: &[u8]) -> Validated
+pub(crate) fn validate(image: &[u8], limits: Limits, memory: &[u8]) -> Validated
     ensures { λ r. ⌜ r ≡ answerOf (stepRefusal (now (image .entry)) limits (now (memory .entry))) (layoutOf (now (image .entry))) ⌝ }
 {
     if memory.len() != 32768 {
@@ -33,21 +33,18 @@ pub fn validate(image: &[u8], limits: Limits, memory: &[u8]) -> Validated
 }
 
 // What stands at PC.
-fn decode_at(
-    image: &[u8],
-    layout: Layout,
-    pc: u32,
-    plain: &[u8; 256],
-    after_72: &[u8; 256],
-    after_90: &[u8; 256],
-) -> Decoded
+fn fetch(image: &[u8], layout: Layout, lengths: &[[u8; 256]; 3], pc: u32) -> Decoded
     requires valid { ⌜ ValidLayout (now image) layout ⌝ }
     requires inside { ⌜ pcTrap (now image) pc ≡ 0 ⌝ }
-    requires tables { ⌜ Tables (now plain) (now after_72) (now after_90) ⌝ }
-    ensures { λ r. ⌜ r ≡ decodedOf (drop (pc - baseOf (now (image .entry))) (codeOf (now (image .entry)))) ⌝ }
+    requires set { ⌜ now lengths ≡ lengthsFor (versionOf (now image)) ⌝ }
+    ensures { λ r. ⌜ r ≡ instructionIn (now (image .entry)) (pc - baseOf (now (image .entry))) ⌝ }
 {
-    let at = layout.code + (pc as usize - layout.base as usize);
-    decode_by(&image[at..], plain, after_72, after_90)
+    decode_at(
+        image,
+        lengths,
+        pc as usize - layout.base as usize,
+        layout.size,
+    )
 }
 
 // 23 outside the set, 22 where the bytes run out.
@@ -84,19 +81,17 @@ impl Registers {
         self.made(image, memory, next, computed, effect)
     }
 
-    // One step, by a table of lengths for each page.
+    // One step, by the lengths of the image's op-codes.
     pub(crate) fn step(
         self,
         image: &[u8],
         layout: Layout,
         limits: Limits,
         memory: &mut [u8],
-        plain: &[u8; 256],
-        after_72: &[u8; 256],
-        after_90: &[u8; 256],
+        lengths: &[[u8; 256]; 3],
     ) -> Stepped
         requires valid { ⌜ ValidLayout (now image) layout ⌝ }
-        requires tables { ⌜ Tables (now plain) (now after_72) (now after_90) ⌝ }
+        requires set { ⌜ now lengths ≡ lengthsFor (versionOf (now image)) ⌝ }
         ensures { λ r. ⌜ stepValid (now (image .entry)) limits self (now (memory .entry)) ≡ (r, now (memory .exit)) ⌝ }
     {
         let pc = self.pc;
@@ -107,7 +102,7 @@ impl Registers {
         if trap != 0 {
             return self.answer(StepAnswer::Trap(trap));
         }
-        let decoded = decode_at(image, layout, pc, plain, after_72, after_90);
+        let decoded = fetch(image, layout, lengths, pc);
         let Decoded::Found(i, n) = decoded else {
             return self.answer(StepAnswer::Trap(decoding_trap(decoded)));
         };

@@ -2,8 +2,9 @@
 ghost use mathlib.Core.Path.{_≡_};
 ghost use Prim.Native.Nat.{_+_, _≤_};
 ghost use Rattle.numbers.specs.Checks.{first as firstOf, under as underOf};
-ghost use Rattle.machine.specs.Step.{spTrap, moveTrap, storeTrap, callTrap, effectTrap, isCall};
+ghost use Rattle.machine.specs.Step.{spTrap, moveTrap, storeTrap, callTrap, effectTrap};
 use effects::bytes_wide;
+use effects::is_call;
 use image::Layout;
 use image::Limits;
 use image::granted;
@@ -15,7 +16,7 @@ use stm8::Flow;
 use stm8::Place;
 
 // 21, SP not from stack low - 1 to stack high.
-pub fn sp_trap(limits: Limits, sp: u16) -> u8
+pub(crate) fn sp_trap(limits: Limits, sp: u16) -> u8
     ensures { λ r. ⌜ r ≡ spTrap limits sp ⌝ }
 {
     let stack = limits.stack;
@@ -26,7 +27,7 @@ pub fn sp_trap(limits: Limits, sp: u16) -> u8
 }
 
 // 22, PC not in the code.
-pub fn pc_trap(layout: Layout, pc: u32) -> u8
+pub(crate) fn pc_trap(layout: Layout, pc: u32) -> u8
     requires { ⌜ layout .size ≤ 4096 ⌝ }
     ensures { λ r. ⌜ r ≡ firstOf (underOf pc (layout .base) 22) (underOf (layout .base + layout .size) (pc + 1) 22) ⌝ }
 {
@@ -67,19 +68,6 @@ fn store_trap(limits: Limits, sp: u16, place: Place) -> u8
     }
 }
 
-fn is_call(flow: Flow) -> bool
-    ensures { λ r. ⌜ r ≡ isCall flow ⌝ }
-{
-    match flow {
-        Flow::Next => false,
-        Flow::Branch(_) => false,
-        Flow::Jump(_) => false,
-        Flow::Call(_) => true,
-        Flow::CallRelative(_) => true,
-        Flow::Return => false,
-    }
-}
-
 // 22, a call whose next address is 10000.
 fn call_trap(next: u32, flow: Flow) -> u8
     ensures { λ r. ⌜ r ≡ callTrap next flow ⌝ }
@@ -92,7 +80,7 @@ fn call_trap(next: u32, flow: Flow) -> u8
 }
 
 // 24, 25 and then 22, by an instruction's effect and the address after it.
-pub fn effect_trap(limits: Limits, sp: u16, next: u32, e: Effect) -> u8
+pub(crate) fn effect_trap(limits: Limits, sp: u16, next: u32, e: Effect) -> u8
     ensures { λ r. ⌜ r ≡ effectTrap limits sp next e ⌝ }
 {
     let place = e.place;

@@ -9,10 +9,10 @@ use Rattle.stm8.specs.Effects.{effect}
 use Rattle.stm8.specs.declared.Instruction.{Instruction}
 use Rattle.stm8.specs.declared.Effect.{Effect}
 use Rattle.image.specs.declared.Limits.{Limits}
-use Rattle.rules.specs.Code.{Path, Disagree}
+use Rattle.rules.specs.Paths.{Path, Disagree}
 use Rattle.rules.specs.Rules.{StoreRules}
 use Rattle.rules.specs.Refusal.{InRange, Arrival, DepthFault, range, store, call}
-use Rattle.rules.proofs.Starts.{same-found}
+use Rattle.code.proofs.Starts.{same-found}
 use Rattle.rules.proofs.Phases.{OneNumber}
 
 -- paths of one depth are in range together

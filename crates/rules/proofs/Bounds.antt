@@ -2,11 +2,12 @@
 -- starts.
 use Prim.Native.Nat.{ℕ, _+_, _<_, _≤_}
 use mathlib.Core.Path.{_≡_}
+use mathlib.Core.Option.{some}
 use mathlib.Core.Logic.{_↔_, ⊎-elim}
 use mathlib.Core.List.{List}
 use native.Mathlib.Omega.{arith}
 use lib.ListN.{getD}
-use Rattle.stm8.specs.Effects.{bytesWide, effect}
+use Rattle.stm8.specs.Effects.{bytesWide, callTarget, effect}
 use Rattle.stm8.specs.declared.Instruction.{Instruction}
 use Rattle.stm8.specs.declared.Width.{Width}
 use Rattle.stm8.specs.declared.Place.the-variants.{Direct, OnStack}
@@ -15,10 +16,12 @@ use Rattle.image.specs.declared.Limits.{Limits}
 use Rattle.image.specs.Image.{baseOf, countOf, sizeOf, startOf}
 use Rattle.image.specs.Access.{Granted}
 use Rattle.image.specs.Rules.{ImageRules}
+use Rattle.image.proofs.Granting.{granted-byte}
 use Rattle.image.proofs.Layouts.{begins-before-end}
 use Rattle.image.proofs.Measuring.{end-inside}
-use Rattle.rules.specs.Depth.{after}
-use Rattle.rules.specs.Code.{instructionAt, Start, begins, Calls, Callee}
+use Rattle.code.specs.Depth.{after}
+use Rattle.code.specs.Code.{instructionAt, Start, begins}
+use Rattle.rules.specs.Paths.{Callee}
 use Rattle.rules.specs.Rules.{StoreRules, InstructionUse, before, behind, calling, Use, Greatest, StartCount}
 use Rattle.rules.specs.Acceptance.{Acceptable, AcceptedMarks}
 use Rattle.rules.proofs.Counting.{count-some}
@@ -35,14 +38,14 @@ module _ {image : List ℕ} {depth need : ℕ → ℕ} {r most : ℕ} (g : Great
   pub need-after : after (effect i) (depth o) ≤ most
   need-after = need-covers behind
 
-  pub need-call : {address callee : ℕ} → Calls (baseOf image + (o + n)) (effect i .flow) address → Callee image r address callee →
+  pub need-call : {address callee : ℕ} → callTarget (baseOf image + (o + n)) (effect i .flow) ≡ some address → Callee image r address callee →
       depth o + 2 + need callee ≤ most
   need-call c to = need-covers (calling c to)
 
 -- each byte of a store is granted, or of the routine's own
 module _ (limits : Limits) (depth : ℕ) (w : Width) where
   pub direct-granted : (address : ℕ) → StoreRules limits depth (Direct address w) → (k : ℕ) → k < bytesWide w → Granted limits (address + k)
-  direct-granted address h k below = h k below
+  direct-granted address h = granted-byte limits address (bytesWide w) h
 
   pub stack-own : (f : ℕ) → StoreRules limits depth (OnStack f w) → (k : ℕ) → k < bytesWide w → (1 ≤ f + k) × (f + k ≤ depth)
   stack-own f h k below = (omega (arith, h .0), omega (arith, h .1))

@@ -9,7 +9,7 @@ use Rattle.image.specs.Image.{countOf, startOf}
 use Rattle.image.specs.Rules.{ImageRules}
 use Rattle.image.proofs.Layouts.{begins-before-end}
 use Rattle.image.proofs.Measuring.{end-before}
-use Rattle.rules.specs.Code.{Callee}
+use Rattle.rules.specs.Paths.{Callee}
 
 module _ (image : List ℕ) (layout : ImageRules image) where
   pub start-before : (j k : ℕ) → j < k → k ≤ countOf image → startOf image j < startOf image k

@@ -1,25 +1,22 @@
 -- What an instruction does to depth: it pops or pushes bytes of the routine's own but never both, and a call does neither.
 use Prim.Native.Nat.{ℕ}
 use mathlib.Core.Path.{_≡_, refl}
+use mathlib.Core.Option.{some}
 use mathlib.Core.Logic.{_⊎_, inl, inr, ⊎-map}
 use mathlib.Core.Bool.{Bool, true, false, cond}
 use native.Mathlib.Omega.{arith}
-use Rattle.stm8.specs.Effects.{effect}
+use Rattle.stm8.specs.Effects.{callTarget, effect}
+use Rattle.stm8.proofs.EffectLaws.{by-call}
 use Rattle.stm8.specs.declared.Instruction.{Instruction}
 use Rattle.stm8.specs.declared.Instruction.the-variants as I
 use Rattle.stm8.specs.declared.Effect.{Effect}
 use Rattle.stm8.specs.declared.Flow.{Flow}
-use Rattle.rules.specs.Depth.{movesDepth, popped, pushed, after}
-use Rattle.rules.specs.Code.{Calls, absolute, near}
+use Rattle.code.specs.Depth.{movesDepth, popped, pushed, after}
 
 -- a call leaves depth unchanged
-calls-still : {next address : ℕ} {flow : Flow} → Calls next flow address → movesDepth flow ≡ false
-calls-still absolute = refl
-calls-still near = refl
-
-pub call-depth : {next address : ℕ} (e : Effect) (d : ℕ) → Calls next (e .flow) address → after e d ≡ d
+pub call-depth : (next : ℕ) {address : ℕ} (e : Effect) (d : ℕ) → callTarget next (e .flow) ≡ some address → after e d ≡ d
 unfolding after popped pushed
-call-depth e d c = rw (calls-still c) (omega arith)
+call-depth next e d c = rw (by-call next (e .flow) c (λ f. movesDepth f ≡ false) (λ a. refl) (λ n. refl)) (omega arith)
 
 -- the instructions that pop anything, RET too, push nothing
 one-way : (i : Instruction) → (effect i .pops ≡ 0) ⊎ (effect i .pushes ≡ 0)

@@ -7,15 +7,15 @@ use native.Mathlib.Omega.{arith}
 use lib.ListN.{length}
 use Rattle.image.specs.declared.Limits.{Limits}
 use Rattle.image.specs.Image.{countOf, sizeOf}
-use Rattle.rules.specs.Depth.{reportedNeed}
-use Rattle.rules.specs.Code.{Start, falling, jumping, Reached, entered, followed}
-use Rattle.rules.specs.Rules.{RoutineRulesBy, RoutineRules, Rules, StartCount}
+use Rattle.code.specs.Code.{Start}
+use Rattle.rules.specs.Paths.{falling, jumping, Reached, entered, followed}
+use Rattle.rules.specs.Rules.{reportedNeed, RoutineRulesBy, RoutineRules, Rules, StartCount}
 use Rattle.rules.specs.Acceptance.{AcceptedMarks, PastCode}
 use Rattle.rules.specs.Outcome.{Outcome, accepted}
 use Rattle.rules.specs.declared.Verdict.the-variants.{Accepted}
 use Rattle.rules.specs.Before.{ReachedFromBelow, fallen, jumped, RulesBefore}
 use Rattle.rules.specs.Before as Before
-use Rattle.rules.proofs.Starts.{found-inside}
+use Rattle.code.proofs.Starts.{found-inside}
 use Rattle.rules.proofs.Mapping.{routine-by}
 use Rattle.rules.proofs.Unique.{one-depth, one-need}
 

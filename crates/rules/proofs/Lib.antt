@@ -1,4 +1,3 @@
-pub mod Starts
 pub mod Counting
 pub mod Mapping
 pub mod Callees

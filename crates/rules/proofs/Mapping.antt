@@ -6,9 +6,8 @@ use native.Mathlib.Omega.{arith}
 use Rattle.stm8.specs.declared.Instruction.{Instruction}
 use Rattle.stm8.specs.declared.Effect.{Effect}
 use Rattle.image.specs.declared.Limits.{Limits}
-use Rattle.rules.specs.Code.{Start, begins}
-use Rattle.rules.specs.Rules.{JumpRules, InstructionRules, StartAt, RoutineRulesBy}
-use Rattle.rules.specs.Rules.{InstructionUse, before, behind, calling, Use, Greatest}
+use Rattle.code.specs.Code.{Start, begins}
+use Rattle.rules.specs.Rules.{JumpRules, InstructionRules, StartAt, RoutineRulesBy, InstructionUse, before, behind, calling, Use, Greatest}
 
 module _ {image : List ℕ} {r : ℕ} {At At′ : ℕ → ℕ → Type 0} (f : (to d : ℕ) → At to d → At′ to d) where
   jump-map : {address depth : ℕ} → JumpRules image r At address depth → JumpRules image r At′ address depth

@@ -8,7 +8,7 @@ use native.Mathlib.Omega.{arith}
 use lib.ListN.{getD}
 use lib.Seq.{ext-getD}
 use Rattle.image.specs.Image.{countOf, sizeOf}
-use Rattle.rules.specs.Code.{Start}
+use Rattle.code.specs.Code.{Start}
 use Rattle.rules.specs.Acceptance.{AcceptedMarks, PastCode}
 
 module _ {image : List ℕ} {depth depth′ : ℕ → ℕ} (deep : (r o : ℕ) → r < countOf image → Start image r o → depth o ≡ depth′ o) where

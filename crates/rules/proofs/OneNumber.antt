@@ -1,20 +1,21 @@
 -- Each phase names at most one number at an offset, the last one where the phase before it, that of the paths, has no fault.
 use Prim.Native.Nat.{ℕ, _+_, _<_, _≤_}
 use mathlib.Core.Path.{_≡_, refl, sym, _∙_}
+use mathlib.Core.Option.{some}
 use mathlib.Core.Logic.{_⊎_, ⊎-elim}
 use mathlib.Core.List.{List}
 use native.Mathlib.Omega.{arith}
-use Rattle.stm8.specs.Effects.{effect}
+use Rattle.stm8.specs.Effects.{jumpTarget, effect}
+use Rattle.stm8.proofs.EffectLaws.{one-target}
 use Rattle.stm8.specs.declared.Instruction.{Instruction}
 use Rattle.stm8.specs.declared.Decoded.{Decoded}
 use Rattle.stm8.specs.declared.Decoded.the-variants.{Found, Outside, Truncated}
-use Rattle.stm8.specs.declared.Flow.{Flow}
 use Rattle.image.specs.declared.Limits.{Limits}
 use Rattle.image.specs.Image.{baseOf, startOf, endOf}
-use Rattle.rules.specs.Code.{instructionAt, Jumps, branches, always}
+use Rattle.code.specs.Code.{instructionAt}
 use Rattle.rules.specs.Refusal.{CodeFault, outside, cut, off, JumpFault, leaves, inside, ReachFault, unreached, PathFault, disagree}
 use Rattle.rules.specs.Refusal.{order, Fault}
-use Rattle.rules.proofs.Starts.{same-found}
+use Rattle.code.proofs.Starts.{same-found}
 use Rattle.rules.proofs.Phases.{OneNumber, OneNumbers}
 use Rattle.rules.proofs.AgreedDepths.{one-depth-fault}
 
@@ -30,15 +31,11 @@ code-number (outside s f) = rw f
 code-number (cut s f) = rw f
 code-number (off s f t past) = rw f
 
--- a jump goes to one address, so it does not both leave its routine and stay in it
-pub one-target : {next a b : ℕ} {flow : Flow} → Jumps next flow a → Jumps next flow b → a ≡ b
-one-target branches branches = refl
-one-target always always = refl
-
+-- a jump does not both leave its routine and stay in it
 not-both : (image : List ℕ) (r o : ℕ) {n n′ to address : ℕ} {i i′ : Instruction} →
-    instructionAt image r o ≡ Found i n → Jumps (baseOf image + (o + n)) (effect i .flow) address →
+    instructionAt image r o ≡ Found i n → jumpTarget (baseOf image + (o + n)) (effect i .flow) ≡ some address →
     (address < baseOf image + startOf image r) ⊎ (baseOf image + endOf image r ≤ address) →
-    instructionAt image r o ≡ Found i′ n′ → Jumps (baseOf image + (o + n′)) (effect i′ .flow) (baseOf image + to) →
+    instructionAt image r o ≡ Found i′ n′ → jumpTarget (baseOf image + (o + n′)) (effect i′ .flow) ≡ some (baseOf image + to) →
     startOf image r ≤ to → to < endOf image r → ⊥
 not-both image r o f j out f′ j′ low high =
     let same = same-found f f′ in

@@ -12,8 +12,7 @@ use Rattle.image.specs.Image.{countOf, sizeOf, mainOf}
 use Rattle.image.specs.Rules.{ImageRules}
 use Rattle.image.specs.Validation.{validated}
 use Rattle.image.proofs.Validity.{valid-rules, rules-valid}
-use Rattle.rules.specs.Depth.{reportedNeed}
-use Rattle.rules.specs.Rules.{RoutineRules, NeedRules, Rules}
+use Rattle.rules.specs.Rules.{reportedNeed, RoutineRules, NeedRules, Rules}
 use Rattle.rules.specs.Refusal.{Refusal, inRoutine, noRoom}
 use Rattle.rules.specs.Acceptance.{Acceptable}
 use Rattle.rules.specs.Outcome.{Outcome, invalid, few, refused, accepted}

@@ -8,12 +8,13 @@ use Rattle.stm8.specs.Effects.{effect}
 use Rattle.stm8.specs.declared.Instruction.{Instruction}
 use Rattle.image.specs.declared.Limits.{Limits}
 use Rattle.image.specs.Image.{startOf, endOf}
-use Rattle.rules.specs.Depth.{after}
-use Rattle.rules.specs.Code.{Start, begins, Path, entry, onward, Disagree}
+use Rattle.code.specs.Depth.{after}
+use Rattle.code.specs.Code.{Start, begins}
+use Rattle.rules.specs.Paths.{Path, entry, onward, Disagree}
 use Rattle.rules.specs.Rules.{RoutineRules}
 use Rattle.rules.specs.Refusal.{CodeFault, outside, cut, off, JumpFault, leaves, inside, ReachFault, unreached, PathFault, disagree}
 use Rattle.rules.specs.Refusal.{InRange, Arrival, DepthFault, range, store, call, Phase, codes, jumps, reach, paths, depths, Fault, RoutineRefusal}
-use Rattle.rules.proofs.Starts.{start-high}
+use Rattle.code.proofs.Starts.{start-high}
 use Rattle.rules.proofs.Unique.{rules-found, arrives}
 use Rattle.rules.proofs.Ranges.{rules-range}
 use Rattle.rules.proofs.Phases.{first-fault}

@@ -7,7 +7,7 @@ use Rattle.stm8.specs.Effects.{effect}
 use Rattle.stm8.specs.declared.Instruction.{Instruction}
 use Rattle.stm8.specs.declared.Effect.{Effect}
 use Rattle.stm8.specs.declared.Flow.the-variants.{Return}
-use Rattle.rules.specs.Depth.{popped, after}
+use Rattle.code.specs.Depth.{popped, after}
 use Rattle.rules.specs.Refusal.{InRange}
 use Rattle.rules.proofs.Depths.{moves-one-way}
 

@@ -9,7 +9,7 @@ use borrow.Author.Tests.{leb-true}
 use Rattle.numbers.proofs.Numbering.{Listed}
 use Rattle.image.specs.declared.Limits.{Limits}
 use Rattle.image.specs.Image.{countOf}
-use Rattle.rules.specs.Code.{Start, begins}
+use Rattle.code.specs.Code.{Start, begins}
 use Rattle.rules.specs.Refusal.{outside, cut, off, leaves, inside, unreached, disagree, range, store, call}
 use Rattle.rules.specs.Refusal.{Phase, codes, jumps, reach, paths, depths, Fault, RoutineRefusal, Refusal, inRoutine, noRoom}
 use Rattle.rules.proofs.Phases.{first-fault}

@@ -10,10 +10,11 @@ use Rattle.stm8.specs.declared.Instruction.{Instruction}
 use Rattle.stm8.specs.declared.Decoded.the-variants.{Found}
 use Rattle.image.specs.declared.Limits.{Limits}
 use Rattle.image.specs.Image.{countOf, sizeOf}
-use Rattle.rules.specs.Depth.{after}
-use Rattle.rules.specs.Code.{instructionAt, Start, begins, Goes, falling, jumping, Reached, entered, followed}
+use Rattle.code.specs.Depth.{after}
+use Rattle.code.specs.Code.{instructionAt, Start, begins}
+use Rattle.rules.specs.Paths.{Goes, falling, jumping, Reached, entered, followed}
 use Rattle.rules.specs.Rules.{InstructionRules, StartAt, RoutineRulesBy, RoutineRules, Greatest, NeedRules, StartCount}
-use Rattle.rules.proofs.Starts.{same-found}
+use Rattle.code.proofs.Starts.{same-found}
 use Rattle.rules.proofs.Counting.{count-same}
 use Rattle.rules.proofs.Mapping.{greatest-map}
 

@@ -6,9 +6,8 @@ use mathlib.Core.List.{List}
 use lib.ListN.{length, getD}
 use Rattle.image.specs.declared.Limits.{Limits}
 use Rattle.image.specs.Image.{countOf, sizeOf}
-use Rattle.rules.specs.Depth.{reportedNeed}
-use Rattle.rules.specs.Code.{Start}
-use Rattle.rules.specs.Rules.{Rules, StartCount}
+use Rattle.code.specs.Code.{Start}
+use Rattle.rules.specs.Rules.{reportedNeed, Rules, StartCount}
 
 -- the rules hold, the marks are enough, and need and count are the ones to report
 pub record Acceptable (image : List ℕ) (limits : Limits) (marks : List ℕ) (need count : ℕ) : Type 0 where
@@ -34,8 +33,9 @@ pub record PastCode (image before after : List ℕ) : Type 0 where
   pub size : length after ≡ length before
   pub cells : (o : ℕ) → sizeOf image ≤ o → getD after o 0 ≡ getD before o 0
 
--- A check refuses with 1 to 16. The offset is 0 for all but 6 to 15.
-pub record RefusedAs (number offset : ℕ) : Type 0 where
+-- A check refuses with 1 to 16. The offset is 0 for all but 6 to 15; then it is a start of a routine, inside the code.
+pub record RefusedAs (image : List ℕ) (number offset : ℕ) : Type 0 where
   pub least : 1 ≤ number
   pub most : number ≤ 16
   pub nowhere : (number ≤ 5) ⊎ (number ≡ 16) → offset ≡ 0
+  pub somewhere : 6 ≤ number → number ≤ 15 → (offset < sizeOf image) × ((r : ℕ) × (r < countOf image) × Start image r offset)

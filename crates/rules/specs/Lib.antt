@@ -1,5 +1,4 @@
-pub mod Depth
-pub mod Code
+pub mod Paths
 pub mod Rules
 pub mod Refusal
 pub mod Acceptance

@@ -1,6 +1,7 @@
 -- What a check gives: its verdict, and the marks as it leaves them. That there is just one outcome for each image, limits and marks is a theorem.
 use Prim.Native.Nat.{ℕ, _<_, _≤_}
 use mathlib.Core.Path.{_≡_}
+use mathlib.Core.Logic.{_⊎_}
 use mathlib.Core.List.{List, _++_}
 use lib.ListN.{length, drop, replicate}
 use Rattle.image.specs.declared.Limits.{Limits}
@@ -24,19 +25,22 @@ pub data Outcome (image : List ℕ) (limits : Limits) (before : List ℕ) : Verd
   accepted : {need count : ℕ} {after : List ℕ} (h : Acceptable image limits before need count) → AcceptedMarks image (h .depth) after →
       PastCode image before after → Outcome image limits before (Accepted need count) after
 
--- document 01's number and values of a verdict: number, offset, need, count
-abbrev pub numberOf : Verdict → ℕ
-numberOf (Accepted need count) = 0
-numberOf (Refused number offset) = number
+-- document 01's number and values of each verdict: accepted is 0; refused, need and count are 0
+pub record VerdictValues : Type 0 where
+  pub number : ℕ
+  pub offset : ℕ
+  pub need : ℕ
+  pub count : ℕ
 
-abbrev pub offsetOf : Verdict → ℕ
-offsetOf (Accepted need count) = 0
-offsetOf (Refused number offset) = offset
+abbrev pub valuesOf : Verdict → VerdictValues
+valuesOf (Accepted need count) = record { number = 0; offset = 0; need = need; count = count }
+valuesOf (Refused number offset) = record { number = number; offset = offset; need = 0; count = 0 }
 
-abbrev pub needOf : Verdict → ℕ
-needOf (Accepted need count) = need
-needOf (Refused number offset) = 0
-
-abbrev pub startsOf : Verdict → ℕ
-startsOf (Accepted need count) = count
-startsOf (Refused number offset) = 0
+-- What they tell of a verdict: it accepts exactly where the number is 0, and refuses with 1 to the most there is, 16 of a check and 17 of a start.
+-- The offset is 0 for all but 6 to 15.
+pub record VerdictNumbered (last : ℕ) (v : Verdict) : Type 0 where
+  pub accepted : valuesOf v .number ≡ 0 → v ≡ Accepted (valuesOf v .need) (valuesOf v .count)
+  pub refused : (valuesOf v .number ≡ 0 → ⊥) → v ≡ Refused (valuesOf v .number) (valuesOf v .offset)
+  pub most : valuesOf v .number ≤ last
+  pub nowhere : (valuesOf v .number ≤ 5) ⊎ (16 ≤ valuesOf v .number) → valuesOf v .offset ≡ 0
+  pub nothing : (valuesOf v .number ≡ 0 → ⊥) → (valuesOf v .need ≡ 0) × (valuesOf v .count ≡ 0)

@@ -2,19 +2,21 @@
 -- about it.
 use Prim.Native.Nat.{ℕ, _+_, _<_, _≤_}
 use mathlib.Core.Path.{_≡_}
+use mathlib.Core.Option.{some}
 use mathlib.Core.Logic.{_⊎_}
 use mathlib.Core.Bool.{true}
 use mathlib.Core.List.{List, [], _∷_}
-use Rattle.stm8.specs.Effects.{effect}
+use Rattle.stm8.specs.Effects.{jumpTarget, callTarget, effect}
 use Rattle.stm8.specs.declared.Instruction.{Instruction}
 use Rattle.stm8.specs.declared.Decoded.the-variants.{Found, Outside, Truncated}
 use Rattle.stm8.specs.declared.Effect.{Effect}
 use Rattle.stm8.specs.declared.Flow.the-variants.{Return}
 use Rattle.image.specs.declared.Limits.{Limits}
 use Rattle.image.specs.Image.{baseOf, countOf, startOf, endOf}
-use Rattle.rules.specs.Depth.{popped, pushed, falls, reportedNeed}
-use Rattle.rules.specs.Code.{instructionAt, Start, Jumps, Calls, Callee, Reached, Path, Disagree}
-use Rattle.rules.specs.Rules.{StoreRules, RoutineRules, NeedRules}
+use Rattle.code.specs.Depth.{popped, pushed, falls}
+use Rattle.code.specs.Code.{instructionAt, Start}
+use Rattle.rules.specs.Paths.{Callee, Reached, Path, Disagree}
+use Rattle.rules.specs.Rules.{reportedNeed, StoreRules, RoutineRules, NeedRules}
 
 -- 8, outside the set; 9, runs past its routine; 15, falls off its routine
 pub data CodeFault (image : List ℕ) (r : ℕ) : ℕ → ℕ → Type 0 where
@@ -26,10 +28,10 @@ pub data CodeFault (image : List ℕ) (r : ℕ) : ℕ → ℕ → Type 0 where
 -- 13, jump leaves its routine; 10, it stays and lands on no start. Both stand at the jump.
 pub data JumpFault (image : List ℕ) (r : ℕ) : ℕ → ℕ → Type 0 where
   leaves : {o n address : ℕ} {i : Instruction} → Start image r o → instructionAt image r o ≡ Found i n →
-      Jumps (baseOf image + (o + n)) (effect i .flow) address →
+      jumpTarget (baseOf image + (o + n)) (effect i .flow) ≡ some address →
       (address < baseOf image + startOf image r) ⊎ (baseOf image + endOf image r ≤ address) → JumpFault image r o 13
   inside : {o n to : ℕ} {i : Instruction} → Start image r o → instructionAt image r o ≡ Found i n →
-      Jumps (baseOf image + (o + n)) (effect i .flow) (baseOf image + to) →
+      jumpTarget (baseOf image + (o + n)) (effect i .flow) ≡ some (baseOf image + to) →
       startOf image r ≤ to → to < endOf image r → (Start image r to → ⊥) → JumpFault image r o 10
 
 -- 6, start not reached
@@ -62,7 +64,7 @@ pub data DepthFault (image : List ℕ) (limits : Limits) (r : ℕ) : ℕ → ℕ
       (depth : ℕ) → depth + pops ≡ pushes → (StoreRules limits depth (effect i .place) → ⊥) → DepthFault image limits r o 12
   call : {o n pushes pops address : ℕ} {i : Instruction} → Arrival image r o n i pushes pops → InRange (effect i) pushes pops →
       (depth : ℕ) → depth + pops ≡ pushes → StoreRules limits depth (effect i .place) →
-      Calls (baseOf image + (o + n)) (effect i .flow) address → ((callee : ℕ) → Callee image r address callee → ⊥) → DepthFault image limits r o 14
+      callTarget (baseOf image + (o + n)) (effect i .flow) ≡ some address → ((callee : ℕ) → Callee image r address callee → ⊥) → DepthFault image limits r o 14
 
 -- the five tests of a routine, in their order
 pub data Phase : Type 0 where

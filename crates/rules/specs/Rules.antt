@@ -2,11 +2,12 @@
 -- a need for each routine are given: the rules say whether they are the right ones.
 use Prim.Native.Nat.{ℕ, zero, suc, _+_, _-_, _<_, _≤_}
 use mathlib.Core.Path.{_≡_}
+use mathlib.Core.Option.{some}
 use mathlib.Core.Bool.{Bool, true}
 use mathlib.Core.Logic.{_↔_}
 use mathlib.Core.List.{List}
 use Rattle.numbers.specs.Bits.{flag}
-use Rattle.stm8.specs.Effects.{bytesWide, effect}
+use Rattle.stm8.specs.Effects.{bytesWide, jumpTarget, callTarget, effect}
 use Rattle.stm8.specs.declared.Instruction.{Instruction}
 use Rattle.stm8.specs.declared.Decoded.the-variants.{Found}
 use Rattle.stm8.specs.declared.Effect.{Effect}
@@ -14,11 +15,12 @@ use Rattle.stm8.specs.declared.Place.{Place}
 use Rattle.stm8.specs.declared.Place.the-variants.{Nowhere, Direct, OnStack, Pushed}
 use Rattle.stm8.specs.declared.Flow.the-variants.{Return}
 use Rattle.image.specs.declared.Limits.{Limits}
-use Rattle.image.specs.Image.{baseOf, countOf, sizeOf, startOf, endOf}
-use Rattle.image.specs.Access.{Granted}
+use Rattle.image.specs.Image.{baseOf, countOf, sizeOf, startOf, endOf, mainOf}
+use Rattle.image.specs.Access.{StoreGranted}
 use Rattle.image.specs.Rules.{LimitsRules, ImageRules}
-use Rattle.rules.specs.Depth.{popped, after, falls, reportedNeed}
-use Rattle.rules.specs.Code.{instructionAt, Start, Jumps, Calls, Callee, Reached}
+use Rattle.code.specs.Depth.{popped, after, falls}
+use Rattle.code.specs.Code.{instructionAt, Start}
+use Rattle.rules.specs.Paths.{Callee, Reached}
 
 -- Jumps stay in the routine, land on starts, and agree on depth. `At to depth` says that a start at that depth is there.
 pub record JumpRules (image : List ℕ) (r : ℕ) (At : ℕ → ℕ → Type 0) (address depth : ℕ) : Type 0 where
@@ -31,7 +33,7 @@ pub record JumpRules (image : List ℕ) (r : ℕ) (At : ℕ → ℕ → Type 0) 
 -- A direct store, both bytes of a word included, lies in the grant. An SP store at offset f needs f at least 1 and its last byte at most at the depth.
 abbrev pub StoreRules : Limits → ℕ → Place → Type 0
 StoreRules limits depth Nowhere = Unit {0}
-StoreRules limits depth (Direct address w) = (k : ℕ) → k < bytesWide w → Granted limits (address + k)
+StoreRules limits depth (Direct address w) = StoreGranted limits address (bytesWide w)
 StoreRules limits depth (OnStack f w) = (1 ≤ f) × (f + (bytesWide w - 1) ≤ depth)
 StoreRules limits depth (Pushed w) = Unit {0}
 
@@ -44,8 +46,8 @@ pub record InstructionRules (image : List ℕ) (limits : Limits) (r : ℕ) (At :
   -- RET needs depth 0
   pub return-empty : effect i .flow ≡ Return → depth ≡ 0
   pub store : StoreRules limits depth (effect i .place)
-  pub jump : {address : ℕ} → Jumps (baseOf image + (o + n)) (effect i .flow) address → JumpRules image r At address (after (effect i) depth)
-  pub call : {address : ℕ} → Calls (baseOf image + (o + n)) (effect i .flow) address → (callee : ℕ) × Callee image r address callee
+  pub jump : {address : ℕ} → jumpTarget (baseOf image + (o + n)) (effect i .flow) ≡ some address → JumpRules image r At address (after (effect i) depth)
+  pub call : {address : ℕ} → callTarget (baseOf image + (o + n)) (effect i .flow) ≡ some address → (callee : ℕ) × Callee image r address callee
   -- what falls through, and only JRA and RET do not, falls on a start of the routine
   pub fall : falls (effect i .flow) ≡ true → At (o + n) (after (effect i) depth)
 
@@ -75,7 +77,7 @@ RoutineRules image = RoutineRulesBy (Reached image) image
 pub data InstructionUse (image : List ℕ) (need : ℕ → ℕ) (r next depth : ℕ) (e : Effect) : ℕ → Type 0 where
   before : InstructionUse image need r next depth e depth
   behind : InstructionUse image need r next depth e (after e depth)
-  calling : {address callee : ℕ} → Calls next (e .flow) address → Callee image r address callee →
+  calling : {address callee : ℕ} → callTarget next (e .flow) ≡ some address → Callee image r address callee →
       InstructionUse image need r next depth e (depth + 2 + need callee)
 
 -- and those of each instruction
@@ -94,6 +96,10 @@ pub record Greatest (P : ℕ → Type 0) (most : ℕ) : Type 0 where
 -- a routine's need is the greatest of what it uses
 abbrev pub NeedRules : List ℕ → (ℕ → ℕ) → (ℕ → ℕ) → Type 0
 NeedRules image depth need = (r : ℕ) → r < countOf image → Greatest (Use image depth need r) (need r)
+
+-- Reported need is 2 + main's need.
+abbrev pub reportedNeed : List ℕ → (ℕ → ℕ) → ℕ
+reportedNeed image need = 2 + need (mainOf image)
 
 -- all rules; the stack area is not below reported need
 pub record RulesBy (Reach : ℕ → ℕ → Type 0) (image : List ℕ) (limits : Limits) (depth need : ℕ → ℕ) : Type 0 where

@@ -6,7 +6,7 @@ use lib.ListN.{getD}
 use Rattle.numbers.specs.Lists.{Bytes}
 use Rattle.numbers.proofs.Computing.{below, table-at}
 use Rattle.stm8.specs.OpcodeMap.{Page, Plain, After72, After90, entry}
-use Rattle.stm8.specs.Decoding.{pageOf, precodes, entryIn, lengthOf, lengths, decodedIn, decoded, tables, decodedBy, Tables}
+use Rattle.stm8.specs.Decoding.{pageOf, precodes, entryIn, lengthOf, lengths, decodedIn, decoded, tableOf, decodedBy, mapLengths}
 
 -- the computed test: the bytes after an op-code do not change its length
 same-length : (page : Page) (a b c d op : ℕ) → op < 256 → lengthOf (entry page op 0 0 0 0) ≡ lengthOf (entry page op a b c d)
@@ -24,12 +24,11 @@ pub in-page : (s : List ℕ) → Bytes s → (page : Page) (table : List ℕ) �
 in-page s bytes page table e =
     ap (λ n. decodedIn page n s) (ap (λ l. getD l (getD s (precodes page) 0) 0) e ∙ lengths-hold page _ _ _ _ _ (bytes (precodes page)))
 
-pub decoded-by-tables : (plain after72 after90 : List ℕ) → Tables plain after72 after90 → (s : List ℕ) → Bytes s →
-    decodedBy (tables plain after72 after90) s ≡ decoded s
+pub by-map-lengths : (tables : List (List ℕ)) → tables ≡ mapLengths → (s : List ℕ) → Bytes s → decodedBy tables s ≡ decoded s
 unfolding decodedBy decoded
-decoded-by-tables plain after72 after90 own s bytes = in-page s bytes (pageOf (getD s 0 0)) _ (held (pageOf (getD s 0 0)))
+by-map-lengths tables own s bytes = in-page s bytes (pageOf (getD s 0 0)) _ (held (pageOf (getD s 0 0)))
   where
-    held : (page : Page) → tables plain after72 after90 page ≡ lengths page
-    held Plain = own .plain-is
-    held After72 = own .after72-is
-    held After90 = own .after90-is
+    held : (page : Page) → tableOf tables page ≡ lengths page
+    held Plain = rw own refl
+    held After72 = rw own refl
+    held After90 = rw own refl

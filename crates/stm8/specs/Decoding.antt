@@ -1,7 +1,6 @@
 -- Decoding: what the bytes at the front of a list are.
 use Prim.Native.Nat.{ℕ, _+_}
-use mathlib.Core.Path.{_≡_}
-use mathlib.Core.List.{List}
+use mathlib.Core.List.{List, [], _∷_}
 use mathlib.Core.Bool.{cond}
 use lib.Dec.{eqb, leb, ltb}
 use lib.ListN.{length, getD}
@@ -51,20 +50,18 @@ decodedIn page n s = cond (leb (length s) (precodes page)) Truncated (sized n (e
 unfoldable pub decoded : List ℕ → Decoded
 decoded s = let page = pageOf (getD s 0 0) in decodedIn page (lengthOf (entryIn page s)) s
 
--- what they are by tables of lengths, one for each page
-abbrev pub tables : List ℕ → List ℕ → List ℕ → Page → List ℕ
-tables plain after72 after90 Plain = plain
-tables plain after72 after90 After72 = after72
-tables plain after72 after90 After90 = after90
+-- what they are by three tables of lengths, one for each page
+abbrev pub tableOf : List (List ℕ) → Page → List ℕ
+tableOf tables Plain = getD tables 0 []
+tableOf tables After72 = getD tables 1 []
+tableOf tables After90 = getD tables 2 []
 
-unfoldable pub decodedBy : (Page → List ℕ) → List ℕ → Decoded
-decodedBy tableOf s = let page = pageOf (getD s 0 0) in decodedIn page (getD (tableOf page) (getD s (precodes page) 0) 0) s
+unfoldable pub decodedBy : List (List ℕ) → List ℕ → Decoded
+decodedBy tables s = let page = pageOf (getD s 0 0) in decodedIn page (getD (tableOf tables page) (getD s (precodes page) 0) 0) s
 
--- tables that hold the map's own lengths
-pub record Tables (plain after72 after90 : List ℕ) : Type 0 where
-  pub plain-is : plain ≡ lengths Plain
-  pub after72-is : after72 ≡ lengths After72
-  pub after90-is : after90 ≡ lengths After90
+-- the tables of the map's own lengths
+abbrev pub mapLengths : List (List ℕ)
+mapLengths = lengths Plain ∷ lengths After72 ∷ lengths After90 ∷ []
 
 -- document 01's number of an answer, 0 for an instruction
 abbrev pub decodingNumber : Decoded → ℕ

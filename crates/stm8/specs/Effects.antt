@@ -2,6 +2,7 @@
 -- both go by it, so that neither looks into an instruction's arithmetic to know what it may write.
 use Prim.Native.Nat.{ℕ, _+_, _-_}
 use mathlib.Core.Bool.{Bool, true, false, cond}
+use mathlib.Core.Option.{Option, none, some}
 use lib.Dec.{ltb}
 use Rattle.stm8.specs.declared.Operand.{Operand}
 use Rattle.stm8.specs.declared.Operand.the-variants.{Accumulator, Immediate, ImmediateWord, Short, Long, Indexed, Sp}
@@ -23,6 +24,24 @@ use Rattle.stm8.specs.declared.Effect.{Effect}
 -- has, counts as 0
 unfoldable pub relative : ℕ → ℕ → ℕ
 relative next offset = cond (ltb offset 128) (next + offset) (next + offset - 256)
+
+-- where a jump goes, by the address after it; JRF is checked and counts for reach as the others do
+unfoldable pub jumpTarget : ℕ → Flow → Option ℕ
+jumpTarget next Next = none
+jumpTarget next (Branch n) = some (relative next n)
+jumpTarget next (Jump n) = some (relative next n)
+jumpTarget next (Call a) = none
+jumpTarget next (CallRelative n) = none
+jumpTarget next Return = none
+
+-- where a call goes
+unfoldable pub callTarget : ℕ → Flow → Option ℕ
+callTarget next Next = none
+callTarget next (Branch n) = none
+callTarget next (Jump n) = none
+callTarget next (Call a) = some a
+callTarget next (CallRelative n) = some (relative next n)
+callTarget next Return = none
 
 -- the bytes of a width
 abbrev pub bytesWide : Width → ℕ
@@ -124,3 +143,12 @@ effect (I.Callr n) = calls (CallRelative n)
 effect I.Ret = record { pops = 2; pushes = 0; place = Nowhere; flow = Return }
 effect I.Nop = computes
 effect (I.Flag o) = computes
+
+-- CALL or CALLR
+abbrev pub isCall : Flow → Bool
+isCall Next = false
+isCall (Branch n) = false
+isCall (Jump n) = false
+isCall (Call a) = true
+isCall (CallRelative n) = true
+isCall Return = false

@@ -3,6 +3,7 @@ mod tables;
 
 pub use tables::after_72_lengths;
 pub use tables::after_90_lengths;
+pub use tables::map_lengths;
 pub use tables::plain_lengths;
 
 // The index registers.

@@ -2,7 +2,7 @@
 // outside the set, else pre-code, op-code and operand bytes. (The formatter would put one entry on a line.)
 ghost use mathlib.Core.Path.{_≡_};
 ghost use Rattle.stm8.specs.OpcodeMap.{Plain, After72, After90};
-ghost use Rattle.stm8.specs.Decoding.{lengths};
+ghost use Rattle.stm8.specs.Decoding.{lengths, mapLengths};
 
 const PLAIN: [u8; 256] = [
     0, 0, 0, 0, 0, 0, 0, 0, 0, 0, 0, 0, 0, 0, 0, 0, // 0_
@@ -61,7 +61,7 @@ const AFTER_90: [u8; 256] = [
     2, 2, 2, 0, 2, 2, 2, 0, 2, 2, 2, 2, 0, 0, 0, 0, // F_
 ];
 
-// The page without pre-code. Whoever decodes much asks for each table once and lends it.
+// The page without pre-code.
 pub fn plain_lengths() -> [u8; 256]
     ensures { λ r. ⌜ r ≡ lengths Plain ⌝ }
 {
@@ -80,4 +80,11 @@ pub fn after_90_lengths() -> [u8; 256]
     ensures { λ r. ⌜ r ≡ lengths After90 ⌝ }
 {
     AFTER_90
+}
+
+// All three, by page. Whoever decodes much asks for them once and lends them.
+pub fn map_lengths() -> [[u8; 256]; 3]
+    ensures { λ r. ⌜ r ≡ mapLengths ⌝ }
+{
+    [plain_lengths(), after_72_lengths(), after_90_lengths()]
 }

@@ -10,19 +10,20 @@ use Rattle.numbers.specs.Words as Words
 use Rattle.arithmetic.specs.Bits as CC
 use Rattle.arithmetic.specs.Flags as Flags
 use Rattle.arithmetic.specs.Sums as Sums
-use Rattle.arithmetic.specs.Accumulator as Accumulator
-use Rattle.arithmetic.specs.Modify as Modify
-use Rattle.arithmetic.specs.Words as WordResults
-use Rattle.stm8.specs.Decoding.{decoded}
-use Rattle.stm8.specs.Effects.{relative}
+use Rattle.stm8.specs.Effects as Effects
+use Rattle.byte_operations.specs.Accumulator as Accumulator
+use Rattle.byte_operations.specs.Unary as Unary
+use Rattle.index_operations.specs.Words as WordResults
 use Rattle.image.specs.Image as Image
 use Rattle.image.specs.Validation as Validation
 use Rattle.image.specs.Access.{granted}
-use Rattle.rules.specs.Depth as Depth
-use Rattle.rules.specs.Code as Code
+use Rattle.code.specs.Depth as Depth
+use Rattle.code.specs.Code as Code
+use Rattle.code.specs.Set as Set
 use Rattle.control_flow.specs.Routine as Routine
 use Rattle.control_flow.specs.Measuring as Measuring
 use Rattle.acceptance.specs.Cells as Cells
+use Rattle.code.specs.Instructions as Instructions
 use Rattle.acceptance.specs.Starts as Starts
 use Rattle.acceptance.specs.Exploration as Exploration
 use Rattle.acceptance.specs.Check as Check
@@ -34,14 +35,15 @@ use Rattle.worked.specs.Cases.{outcome, expected, cases}
 pub all-hold : map outcome cases ≡ map expected cases
 unfolding xor Bits.bit Checks.first Checks.both Checks.under Checks.unless Checks.differ Folds.firstIn Folds.total Lists.same Words.word Words.high
     Words.low Words.wordAt CC.withBit Flags.withNZ Sums.sum Sums.carryOut Sums.borrowOut Sums.difference Sums.sumOverflow Sums.afterSum
-    Accumulator.added Accumulator.resultNZ Modify.NEG WordResults.MUL decoded relative granted Image.versionOf Image.baseOf Image.countOf
-    Image.lengthsOf Image.lengthAt Image.codeAt Image.codeOf Image.sizeOf Image.layoutOf Image.startOf Image.endOf Image.mainOf
-    Validation.areaCheck Validation.apartCheck Validation.limitsCheck Validation.markCheck Validation.versionCheck Validation.lengthCheck
-    Validation.lengthsCheck Validation.layoutCheck Validation.refusal Validation.validated Depth.popped Depth.pushed Code.instructionAt
+    Accumulator.added Accumulator.resultNZ Accumulator.aluResult Unary.modifyResult WordResults.mulResult Effects.relative Effects.jumpTarget
+    Effects.callTarget granted Image.versionOf Image.baseOf Image.countOf Image.lengthsOf Image.lengthAt Image.codeAt Image.codeOf Image.sizeOf
+    Image.layoutOf Image.startOf Image.endOf Image.mainOf Validation.areaCheck Validation.apart Validation.limitsCheck Validation.markCheck
+    Validation.versionCheck Validation.lengthCheck Validation.lengthsCheck Validation.headerCheck Validation.layoutCheck Validation.refusal
+    Validation.validated Set.decodedFor Depth.popped Depth.pushed Code.decodedAt
     Routine.jumpNumber Routine.depthNumber Routine.countFrom Measuring.callUse Measuring.greatestUse Cells.targetCell Cells.storeCell
-    Cells.beginning Cells.callee Cells.calleeCell Starts.startsFrom Starts.startsOf Starts.listed Exploration.exploreFrom
+    Cells.beginning Cells.callee Cells.calleeCell Instructions.startsFrom Instructions.startsOf Starts.listed Exploration.exploreFrom
     Exploration.mostMoved Exploration.biasFor Exploration.explored Check.firstAt Check.biasOf Check.exploredIn Check.flowRefusing
     Check.routineRefusing Check.routinesFrom Check.swept Check.codeChecked Check.checked
     Reading.readByte Computing.computed Step.spTrap Step.pcTrap Step.moveTrap Step.storeTrap Step.callTrap Step.effectTrap Step.pcAfter
-    Step.memoryAfter Step.made Step.decodedStep Step.stepValid Step.stepRefusal Step.stepped
+    Step.storedAt Step.memoryAfter Step.made Step.decodedStep Step.stepValid Step.stepRefusal Step.stepped
 all-hold = refl

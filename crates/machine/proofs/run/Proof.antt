@@ -4,6 +4,7 @@ use denote.Ref.{now}
 use borrow.Author.Needs.{needs}
 use Rattle.machine.proofs.StepLaws.{refuses, validates}
 use Rattle.machine.proofs.RunLaws.{refused-at-once}
+use Rattle.machine.proofs.Numbers.{run-answered}
 use Rattle.machine.proofs.run.Statement.{statement}
 use Rattle.machine.proofs.run.Tie as tie
 
@@ -20,11 +21,15 @@ returns c =
     let c2 = c .before .before in
     let c4 = c2 .before .before in
     let a = c4 .before .before .before .before .args in
-    rw (
+    run-answered (now (a .image)) (a .limits) (a .budget) (a .registers) (now (a .memory)) _ _
+    (rw (
       refused-at-once (a .budget) (now (a .image)) (a .limits) (a .registers) (now (a .memory)) _
           (refuses (now (a .image)) (a .limits) (now (a .memory)) _ (sym (c4 .validate .ensures) ∙ c2 .validated .given .1)),
       c .ended .ensures,
-    )
+    ))
+
+returns-2 : tie.Need-returns-2
+returns-2 c = run-answered _ _ _ _ _ _ _ (c .before .before .run .ensures)
 
 pub run-spec : {M : Type 1} → statement M
 run-spec =
@@ -38,4 +43,4 @@ run-spec =
     (λ c. search needs)
     returns
     (λ c. search needs)
-    (λ c. search needs))
+    returns-2)

@@ -20,7 +20,7 @@ returns c =
     let b = c9 .word-at .result * 65536 + c8 .word-at2 .result in
     let eb : b ≡ wordAt (now (a .case)) 22 * 65536 + wordAt (now (a .case)) 24 = rw (c9 .word-at .ensures, c8 .word-at2 .ensures) in
     run-parts (now (a .image)) (now (a .memory)) _ (c13 .limits-of .result) _ (c11 .registers-of .result) _
-    (c13 .limits-of .ensures) (c11 .registers-of .ensures) (c7 .run .result) b _ eb (c7 .run .ensures)
+    (c13 .limits-of .ensures) (c11 .registers-of .ensures) (c7 .run .result) b _ eb (c7 .run .ensures .0)
 
 pub run-case-spec : {M : Type 1} → statement M
 run-case-spec =

@@ -12,7 +12,7 @@ returns c =
     let c8 = c6 .before .before in
     let a = c8 .before .before .before .before .args in
     step-parts (now (a .image)) (now (a .memory)) _ (c8 .limits-of .result) _ (c6 .registers-of .result) _
-    (c8 .limits-of .ensures) (c6 .registers-of .ensures) (c4 .step .result) (c4 .step .ensures)
+    (c8 .limits-of .ensures) (c6 .registers-of .ensures) (c4 .step .result) (c4 .step .ensures .0)
 
 pub step-case-spec : {M : Type 1} → statement M
 step-case-spec =

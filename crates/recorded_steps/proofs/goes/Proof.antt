@@ -16,7 +16,7 @@ returns-3 c =
     let a = c10 .before .before .before .before .before .args in
     λ h.
     step-goes (now (a .image)) (c10 .limits-of .result) (a .before) (now (a .memory)) (c8 .step .result) _ (a .after) (now (a .expected))
-    (c10 .limits-of .ensures) (c8 .step .ensures) (c4 .enum-told .given .1)
+    (c10 .limits-of .ensures) (c8 .step .ensures .0) (c4 .enum-told .given .1)
     (c2 .before .same-registers .ensures (not-false _ (c2 .if1 .left))) (c .same .ensures .0 h)
 
 pub goes-spec : {M : Type 1} → statement M

@@ -1,78 +1,81 @@
 -- `checker::decoding::decode_start` meets its contract.
-use mathlib.Core.Path.{sym, _∙_}
+use mathlib.Core.Path.{_≡_, sym, ap, _∙_}
 use native.Mathlib.Omega.{arith}
 use denote.Ref.{now}
-use Rattle.rules.proofs.Starts.{found-inside}
-use Rattle.checker.proofs.DecodePass.{start-below, start-undecoded, start-off, start-stored}
+use Rattle.stm8.specs.declared.Decoded.the-variants.{Found}
+use Rattle.code.specs.Code.{instructionAt, decodedAt}
+use Rattle.code.proofs.Sets.{decoded-at}
+use Rattle.code.proofs.Starts.{found-inside}
+use Rattle.checker.proofs.DecodePass.{start-undecoded, start-off, start-stored}
 use borrow.Author.Needs.{needs}
 use Rattle.checker.proofs.decoding.decode_start.Statement.{statement}
 use Rattle.checker.proofs.decoding.decode_start.Tie as tie
 
-decode-at-requires : tie.Need-decode-at-requires
-decode-at-requires c κs = let p = c .before .pre in (p .0, start-below (p .0) (p .1), p .2)
+-- the decoder's answer is what stands at the offset
+answer : (c : tie.After-decode-at) →
+    let s = c .before .before in
+    c .decode-at .result ≡ instructionAt (now (s .args .image)) (s .args .r .index) (s .args .at)
+answer c =
+    let s = c .before .before in
+    let image = now (s .args .image) in
+    c .decode-at .ensures ∙
+    decoded-at image (λ k. omega (arith, c .before .shared-slice-known .given k)) _ (s .pre .1) (s .args .r .end) (s .args .at) ∙
+    ap (λ n. decodedAt image n (s .args .at)) (s .pre .0 .end-is)
 
 returns : tie.Need-returns
 returns c =
-    let s = c .before .before .before .before in
-    (start-undecoded (s .pre .1) _ (c .before .before .decode-at .ensures) (c .before .match .keys2) (c .decoding-number .ensures), s .pre .4)
+    let d = c .before .before .before in
+    start-undecoded (d .before .before .pre .3) _ (answer d) (c .before .before .match .keys2) (c .refused-start .ensures ∙ c .before .decoding-number .ensures)
+
+found : (c : tie.After-effect-of) →
+    let s = c .before .before .before .before .before .before in
+    instructionAt (now (s .args .image)) (s .args .r .index) (s .args .at) ≡ Found (c .before .before .d .given .0 .0) (c .before .before .d .given .0 .1 .0)
+found c = sym (answer (c .before .before .before .before)) ∙ c .before .before .d .given .1
 
 add-next : tie.Need-add-next
 add-next c =
-    let d = c .before .before in
-    let s = d .before .before .before .before in
+    let s = c .before .before .before .before .before .before in
     let routine = s .pre .0 in
-    let found = sym (d .before .before .decode-at .ensures) ∙ d .d .given .1 in
-    let inside = found-inside (now (s .args .image)) (s .args .r .index) (s .args .at) found in
-    omega (arith, inside .1, routine .end-is, routine .size)
+    omega (arith, found-inside (now (s .args .image)) (s .args .r .index) (s .args .at) (found c) .1, routine .end-is, routine .size)
 
 returns-2 : tie.Need-returns-2
 returns-2 c =
-    let e = c .before .before in
-    let d = e .before .before in
-    let s = d .before .before .before .before in (
-      start-off (s .pre .1) (s .pre .0) (d .before .before .decode-at .ensures) (d .d .given .1) (e .effect-of .ensures)
-          (c .before .off-end .ensures) (c .if1 .taken),
-      s .pre .4,
-    )
+    let e = c .before .before .before in
+    let s = e .before .before .before .before .before .before in
+    start-off (s .pre .3) (s .pre .0) (found e) (e .effect-of .ensures) (c .before .before .off-end .ensures) (c .before .if1 .taken) (c .refused-start2 .ensures)
 
-store-cells-requires : tie.Need-store-cells-requires
-store-cells-requires c κs =
-    let e = c .before .before .before .before .before .before .before .before .before in
-    let d = e .before .before in
-    let s = d .before .before .before .before in
+row-of-requires : tie.Need-row-of-requires
+row-of-requires c κs =
+    let e = c .before .before in
+    let s = e .before .before .before .before .before .before in
     let routine = s .pre .0 in
-    let found = sym (d .before .before .decode-at .ensures) ∙ d .d .given .1 in
-    let inside = found-inside (now (s .args .image)) (s .args .r .index) (s .args .at) found in (
-      omega (arith, start-below routine (s .pre .1), routine .size),
+    let inside = found-inside (now (s .args .image)) (s .args .r .index) (s .args .at) (found e) in (
       omega (arith, inside .1, routine .end-is, routine .size),
       omega (arith, routine .some, routine .size),
       routine .size,
       omega (arith, routine .index),
-      s .pre .4,
     )
 
 returns-3 : tie.Need-returns-3
 returns-3 c =
-    let t = c .before .before .before .before .before .before .before .before in
-    let e = t .before .before in
-    let d = e .before .before in
-    let s = d .before .before .before .before in (
-      start-stored (s .pre .1) (s .pre .0) (d .before .before .decode-at .ensures) (d .d .given .1) (e .effect-of .ensures)
-          (t .before .off-end .ensures) (t .if1 .left) (c .store-cells .ensures .0 (now (s .args .image)) (s .pre .0) (s .pre .3)),
-      c .store-cells .ensures .1,
-    )
+    let e = c .before .before .before in
+    let s = e .before .before .before .before .before .before in
+    start-stored (s .pre .3) (s .pre .0) (found e) (e .effect-of .ensures) (c .before .before .off-end .ensures) (c .before .if1 .left)
+    (c .row-of .ensures (now (s .args .image)) (s .pre .0) (s .pre .2))
 
 pub decode-start-spec : {M : Type 1} → statement M
 decode-start-spec =
     tie.close
     (tie.spec
-    decode-at-requires
+    (λ c κs. search needs)
     (λ c. search needs)
+    (λ c κs. search needs)
     (λ c κs. search needs)
     returns
     (λ c κs. search needs)
     add-next
     (λ c κs. search needs)
+    (λ c κs. search needs)
     returns-2
-    store-cells-requires
+    row-of-requires
     returns-3)

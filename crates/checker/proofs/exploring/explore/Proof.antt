@@ -14,11 +14,11 @@ use Rattle.checker.proofs.exploring.explore.Statement.{statement}
 use Rattle.checker.proofs.exploring.explore.Tie as tie
 
 abbrev Inv-loop : tie.InvT-loop
-Inv-loop entry falls jumps pops pushes depths₀ stack₀ e₀ depths stack e =
-    Exploring middle 255 (graph entry falls jumps pops pushes) depths₀ Nothing depths stack (e .height) (e .agree)
+Inv-loop entry cells depths₀ stack₀ e₀ depths stack e =
+    Exploring middle 65535 (graph entry cells) depths₀ Nothing depths stack (e .height) (e .agree)
 
 abbrev μ-loop : tie.MeasureT-loop
-μ-loop entry falls jumps pops pushes depths₀ stack₀ e₀ depths stack e = (4096 - known depths) + e .height
+μ-loop entry cells depths₀ stack₀ e₀ depths stack e = (4096 - known depths) + e .height
 
 inside : (c : tie.Start Inv-loop μ-loop) → c .args .entry < 4096
 inside c = c .pre .inside (c .args .entry) entered

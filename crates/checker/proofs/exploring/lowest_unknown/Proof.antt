@@ -2,22 +2,21 @@
 use Prim.Native.Nat.{_-_, _≤_}
 use mathlib.Core.Logic.{⊎-elim}
 use native.Mathlib.Omega.{arith}
-use lib.ListN.{getD}
 use denote.Ref.{now}
-use Rattle.control_flow.specs.Graph.{cells}
+use Rattle.control_flow.specs.Graph.{column}
 use Rattle.control_flow.specs.Exploring.{Known}
 use Rattle.control_flow.proofs.Rising.{Below, none-below, one-more}
 use Rattle.checker.proofs.exploring.lowest_unknown.Statement.{statement}
 use Rattle.checker.proofs.exploring.lowest_unknown.Tie as tie
 
 abbrev Inv-loop : tie.InvT-loop
-Inv-loop entry end starts depths o₀ o = (entry ≤ o) × (o ≤ end) × Below entry (cells starts) (Known depths) o
+Inv-loop entry end rows depths o₀ o = (entry ≤ o) × (o ≤ end) × Below entry (column 0 rows) (Known depths) o
 
 abbrev μ-loop : tie.MeasureT-loop
-μ-loop entry end starts depths o₀ o = end - o
+μ-loop entry end rows depths o₀ o = end - o
 
 returns : tie.Need-returns Inv-loop μ-loop
-returns c falls jumps pops pushes stores calls =
+returns c =
     let l = c .before .before .before .before .before .loop in
     let n = c .before .before .if1 .taken in
     record {
@@ -28,17 +27,17 @@ returns c falls jumps pops pushes stores calls =
 
 known-here : (c : tie.Joined1 Inv-loop μ-loop) →
     let l = c .before .before .before in
-    1 ≤ getD (now (l .before .args .starts)) (l .loop .o) 0 → Known (now (l .before .args .depths)) (l .loop .o)
+    1 ≤ column 0 (now (l .before .args .cells)) (l .loop .o) → Known (now (l .before .args .depths)) (l .loop .o)
 known-here c is = ⊎-elim (λ w. omega arith) (λ w. absurd (omega arith)) (c .if1 .came)
 
 loop-again : tie.Need-loop-again Inv-loop μ-loop
 loop-again c =
     let l = c .before .before .before in
     let a = l .before .args in
-    (omega arith, omega arith, one-more (a .entry) (cells (now (a .starts))) (Known (now (a .depths))) (l .loop .o) (l .loop .inv .2) (known-here c))
+    (omega arith, omega arith, one-more (a .entry) (column 0 (now (a .cells))) (Known (now (a .depths))) (l .loop .o) (l .loop .inv .2) (known-here c))
 
 returns-2 : tie.Need-returns-2 Inv-loop μ-loop
-returns-2 c falls jumps pops pushes stores calls =
+returns-2 c =
     let l = c .before .loop in
     record {
       high = l .inv .1;
@@ -53,6 +52,8 @@ lowest-unknown-spec =
     Inv-loop
     μ-loop
     (λ c. (omega arith, omega arith, none-below _ _ _))
+    (λ c. omega arith)
+    (λ c. omega arith)
     (λ c. omega arith)
     (λ c. omega arith)
     (λ c. omega arith)

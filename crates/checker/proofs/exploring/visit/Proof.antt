@@ -7,10 +7,9 @@ use Rattle.checker.proofs.exploring.visit.Tie as tie
 
 follow-requires-2 : tie.Need-follow-requires-2
 follow-requires-2 c κs =
-    let f = c .before .before .before in
-    let after = f .before .before .before .before .depth-after .ensures in
-    let start = f .before .before .before .before .before .before .before .before in
-    let ready = start .pre in
+    let f = c .before .before in
+    let after = f .before .before .before .depth-after .ensures in
+    let ready = f .before .before .before .before .before .before .pre in
     let fallen = effect (ready .fall) (after .some) (ready .cells) (f .follow .ensures) in
     (omega arith, after .some, fallen .cells, omega (arith, fallen .count))
 
@@ -22,11 +21,11 @@ visit-spec =
     (λ c. search needs)
     (λ c. search needs)
     (λ c. search needs)
-    (λ c κs. search needs)
     (λ c. search needs)
     (λ c. search needs)
     (λ c κs. search needs)
     (λ c. search needs)
+    (λ c κs. search needs)
     (λ c. search needs)
     follow-requires-2
     (λ c. search needs))

@@ -1,13 +1,11 @@
 -- `checker::flow::check_flow` meets its contract: each pass gives the next what it asks.
 use Prim.Native.Nat.{ℕ, _≤_}
 use mathlib.Core.Path.{_≡_}
-use mathlib.Core.List.{List}
 use native.Mathlib.Omega.{arith}
 use borrow.Author.Needs.{needs}
 use denote.Ref.{now}
 use Rattle.control_flow.specs.Routine.{Routine, routine, WellFormed, jumpCheck}
 use Rattle.control_flow.specs.Outcome.{Passes, strayed}
-use Rattle.control_flow.specs.Exploring.{LowestUnknown, Tested}
 use Rattle.control_flow.proofs.Numbers.{well-formed}
 use Rattle.control_flow.proofs.Outcomes.{tested-fails, tested-passes, outcome-by, untouched, explorable, left, measurable}
 use Rattle.control_flow.proofs.Outcomes.{unreached-at, disagreeing-at, tested-at}
@@ -15,24 +13,7 @@ use Rattle.checker.proofs.flow.check_flow.Statement.{statement}
 use Rattle.checker.proofs.flow.check_flow.Tie as tie
 
 abbrev x : tie.Start → Routine
-x s =
-    let a = s .args in
-    routine (a .entry) (a .end) (now (a .starts)) (now (a .falls)) (now (a .jumps)) (now (a .pops)) (now (a .pushes)) (now (a .stores)) (now (a .calls))
-
-tested : (c : tie.After-check-jumps) →
-    let s = c .before .before in
-    Tested (x s) (jumpCheck (x s)) (c .check-jumps .result .number) (c .check-jumps .result .at)
-tested c =
-    let a = c .before .before .args in
-    c .check-jumps .ensures .0 (now (a .falls)) (now (a .pops)) (now (a .pushes)) (now (a .stores)) (now (a .calls))
-
-lowest : (s : tie.Start) {depths : List ℕ} {o : ℕ} →
-    ((falls jumps pops pushes stores calls : List ℕ) →
-    LowestUnknown (routine (s .args .entry) (s .args .end) (now (s .args .starts)) falls jumps pops pushes stores calls) depths o) →
-    LowestUnknown (x s) depths o
-lowest s w =
-    let a = s .args in
-    w (now (a .falls)) (now (a .jumps)) (now (a .pops)) (now (a .pushes)) (now (a .stores)) (now (a .calls))
+x s = routine (s .args .entry) (s .args .end) (now (s .args .cells))
 
 -- the offset and the count of a refusal
 within : (s : tie.Start) (at count : ℕ) → at ≤ s .args .end → count ≡ s .args .counted → (at ≤ s .args .end) × (count ≤ s .args .end)
@@ -40,7 +21,7 @@ within s at count h e = (h, omega (arith, s .pre .2, s .pre .0 .decoded .entry .
 
 -- every jump lands on a start
 landed : (c : tie.Else1) → let s = c .before .before .before .before in Passes (x s) (jumpCheck (x s))
-landed c = tested-passes (tested (c .before .before)) (c .if1 .left)
+landed c = tested-passes (c .before .before .check-jumps .ensures .0) (c .if1 .left)
 
 formed : (c : tie.Else1) → WellFormed (x (c .before .before .before .before))
 formed c = well-formed (c .before .before .before .before .pre .0 .decoded) (landed c)
@@ -51,7 +32,7 @@ returns c =
     let s = j .before .before in
     let asks = s .pre in
     let r = c .refused .ensures in (
-      outcome-by (r .0) (r .1) (strayed (tested-fails (tested j) (c .before .if1 .taken))),
+      outcome-by (r .0) (r .1) (strayed (tested-fails (j .check-jumps .ensures .0) (c .before .if1 .taken))),
       (untouched (asks .0 .cells) (asks .0 .slots), within s _ _ (omega (arith, r .1, j .check-jumps .ensures .1)) (r .2)),
     )
 
@@ -71,7 +52,7 @@ returns-2 c =
     let found = f .explore .ensures in
     let r = c .refused2 .ensures in (
       outcome-by (r .0) (r .1)
-          (unreached-at (formed e) (asks .0 .clear) (found .0) (lowest s (w .lowest-unknown .ensures)) (landed e) (c .before .if2 .taken)),
+          (unreached-at (formed e) (asks .0 .clear) (found .0) (w .lowest-unknown .ensures) (landed e) (c .before .if2 .taken)),
       (left (formed e) (asks .0 .clear) (found .0) (found .1), within s _ _ (omega (arith, r .1, c .before .if2 .taken)) (r .2)),
     )
 
@@ -94,7 +75,7 @@ returns-3 c =
     let asks = s .pre .0 in
     let found = f .explore .ensures in
     let tested = d .check-depths .ensures in (
-      tested-at (formed e) (asks .clear) (found .0) (lowest s (w .lowest-unknown .ensures)) (landed e) (t .before .if2 .left) (t .if3 .taken)
+      tested-at (formed e) (asks .clear) (found .0) (w .lowest-unknown .ensures) (landed e) (t .before .if2 .left) (t .if3 .taken)
           (tested .0) (tested .1 .0),
       (left (formed e) (asks .clear) (found .0) (found .1), tested .1 .1),
     )
@@ -110,7 +91,7 @@ returns-4 c =
     let found = f .explore .ensures in
     let r = c .refused3 .ensures in (
       outcome-by (r .0) (r .1)
-          (disagreeing-at (formed e) (asks .0 .clear) (found .0) (lowest s (w .lowest-unknown .ensures)) (landed e) (t .before .if2 .left) (t .if3 .left)),
+          (disagreeing-at (formed e) (asks .0 .clear) (found .0) (w .lowest-unknown .ensures) (landed e) (t .before .if2 .left) (t .if3 .left)),
       (left (formed e) (asks .0 .clear) (found .0) (found .1), within s _ _ (omega (arith, r .1, asks .0 .decoded .entry .high)) (r .2)),
     )
 

@@ -13,12 +13,12 @@ use Rattle.checker.proofs.measuring.check_depths.Statement.{statement}
 use Rattle.checker.proofs.measuring.check_depths.Tie as tie
 
 abbrev Inv-loop : tie.InvT-loop
-Inv-loop entry end starts falls jumps pops pushes stores calls needs counted depths marks₀ c₀ marks c =
-    Measuring (routine entry end starts falls jumps pops pushes stores calls) needs middle (cells depths) marks₀ counted (c .at) marks (c .need) (c .count)
+Inv-loop entry end rows needs counted depths marks₀ c₀ marks c =
+    Measuring (routine entry end rows) needs middle (cells depths) marks₀ counted (c .at) marks (c .need) (c .count)
     × (c .refusal ≡ 0)
 
 abbrev μ-loop : tie.MeasureT-loop
-μ-loop entry end starts falls jumps pops pushes stores calls needs counted depths marks₀ c₀ marks c = end - c .at
+μ-loop entry end rows needs counted depths marks₀ c₀ marks c = end - c .at
 
 check-depth-requires : tie.Need-check-depth-requires Inv-loop μ-loop
 check-depth-requires c κs =

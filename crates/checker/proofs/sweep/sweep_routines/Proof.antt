@@ -10,24 +10,21 @@ use Rattle.checker.proofs.sweep.sweep_routines.Statement.{statement}
 use Rattle.checker.proofs.sweep.sweep_routines.Tie as tie
 
 abbrev Inv-loop : tie.InvT-loop
-Inv-loop image limits layout plain after-72 after-90 begins marks₀ starts₀ falls₀ jumps₀ pops₀ pushes₀ stores₀ calls₀ depths₀ stack₀ s₀ marks starts falls jumps pops pushes stores calls depths stack s =
-    Between image limits layout marks s × Clean (s .at) starts falls jumps pops pushes stores calls depths stack
+Inv-loop image limits layout lengths begins marks₀ rows₀ depths₀ stack₀ s₀ marks rows depths stack s =
+    Between image limits layout marks s × Clean (s .at) rows depths stack
 
 abbrev μ-loop : tie.MeasureT-loop
-μ-loop image limits layout plain after-72 after-90 begins marks₀ starts₀ falls₀ jumps₀ pops₀ pushes₀ stores₀ calls₀ depths₀ stack₀ s₀ marks starts falls jumps pops pushes stores calls depths stack s =
-    layout .count - s .index
+μ-loop image limits layout lengths begins marks₀ rows₀ depths₀ stack₀ s₀ marks rows depths stack s = layout .count - s .index
 
 loop-holds : tie.Need-loop-holds Inv-loop μ-loop
 loop-holds c = (between-none (c .before .before .before .pre .3) (c .begun .ensures), zeros-clean _)
 
 routine-at-requires : tie.Need-routine-at-requires Inv-loop μ-loop
-routine-at-requires c κs =
-    let l = c .before .before .before in
-    (l .before .before .before .before .pre .0, c .if1 .taken, l .loop .inv .0 .at)
+routine-at-requires c κs = let l = c .before .before .before in (l .before .before .before .before .pre .0, c .if1 .taken, l .loop .inv .0 .at)
 
 check-routine-requires : tie.Need-check-routine-requires Inv-loop μ-loop
 check-routine-requires c κs =
-    let r = c .before .before .before .before .before .before .before .before .before .before .before .before in
+    let r = c .before .before .before .before in
     let l = r .before .before .before .before in
     let p = l .before .before .before .before .pre in
     let is = r .routine-at .ensures .1 in
@@ -42,15 +39,14 @@ check-routine-requires c κs =
 same-length : tie.Need-same-length Inv-loop μ-loop
 same-length c =
     let x = c .before .before .before .before .before in
-    let r = x .before .before .before .before .before .before .before .before .before .before .before .before .before in
-    let l = r .before .before .before .before in
-    x .check-routine .kept .1 .1 .1 .1 .1 .1 .1 .1 .1 .1 .1 .1 .1 .1 .1 .1 .1 .0 ∙ l .loop .inv .0 .passed .size ∙
+    let l = x .before .before .before .before .before .before .before .before .before in
+    x .check-routine .kept .1 .1 .1 .1 .1 .1 .1 .1 .0 ∙ l .loop .inv .0 .passed .size ∙
     sym (ap length (l .before .before .before .before .pre .3) ∙ length-replicate {A = ℕ} _ 0)
 
 returns : tie.Need-returns Inv-loop μ-loop
 returns c =
     let x = c .before .before .before .before .before in
-    let r = x .before .before .before .before .before .before .before .before .before .before .before .before .before in
+    let r = x .before .before .before .before .before in
     let l = r .before .before .before .before in
     swept-stopped (l .before .before .before .before .pre .0) (l .loop .inv .0) (r .routine-at .ensures .0) (r .routine-at .ensures .1)
     (x .check-routine .ensures .0) (c .before .if2 .taken) (c .stopped .ensures)
@@ -58,7 +54,7 @@ returns c =
 closed-requires : tie.Need-closed-requires Inv-loop μ-loop
 closed-requires c κs =
     let x = c .before .before .before .before in
-    let r = x .before .before .before .before .before .before .before .before .before .before .before .before .before in
+    let r = x .before .before .before .before .before in
     let l = r .before .before .before .before in
     let routine = r .routine-at .ensures .0 in
     let is = r .routine-at .ensures .1 in (
@@ -67,15 +63,12 @@ closed-requires c κs =
     )
 
 loop-less : tie.Need-loop-less Inv-loop μ-loop
-loop-less c =
-    let x = c .before .before .before .before .before in
-    let r = x .before .before .before .before .before .before .before .before .before .before .before .before .before in
-    omega (arith, c .closed .ensures .2, r .before .if1 .taken)
+loop-less c = omega (arith, c .closed .ensures .2, c .before .before .before .before .before .before .before .before .before .before .before .if1 .taken)
 
 loop-again : tie.Need-loop-again Inv-loop μ-loop
 loop-again c =
     let x = c .before .before .before .before .before in
-    let r = x .before .before .before .before .before .before .before .before .before .before .before .before .before in
+    let r = x .before .before .before .before .before in
     let l = r .before .before .before .before in (
       between-more (l .before .before .before .before .pre .0) (l .loop .inv .0) (r .routine-at .ensures .0) (r .routine-at .ensures .1)
           (x .check-routine .ensures .0) (c .before .if2 .left) (c .closed .ensures),
@@ -83,14 +76,10 @@ loop-again c =
     )
 
 same-length-2 : tie.Need-same-length-2 Inv-loop μ-loop
-same-length-2 c =
-    let l = c .before .before .before in
-    l .loop .inv .0 .passed .size ∙ sym (ap length (l .before .before .before .before .pre .3) ∙ length-replicate {A = ℕ} _ 0)
+same-length-2 c = let l = c .before .before .before in l .loop .inv .0 .passed .size ∙ sym (ap length (l .before .before .before .before .pre .3) ∙ length-replicate {A = ℕ} _ 0)
 
 returns-2 : tie.Need-returns-2 Inv-loop μ-loop
-returns-2 c =
-    let l = c .before .before .before in
-    swept-ended (l .before .before .before .before .pre .0) (l .loop .inv .0) (c .if1 .left)
+returns-2 c = let l = c .before .before .before in swept-ended (l .before .before .before .before .pre .0) (l .loop .inv .0) (c .if1 .left)
 
 pub sweep-routines-spec : {M : Type 1} → statement M
 sweep-routines-spec =

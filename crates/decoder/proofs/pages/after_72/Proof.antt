@@ -19,12 +19,12 @@ after-72-spec =
     let c2 = c .before .before in
     let c4 = c2 .before .before in
     outside After72 (now (c4 .before .args .bytes)) (now (c4 .before .args .lengths)) (c2 .before .if1 .left) (c2 .byte-at .ensures)
-    (c .before .table-length .ensures) (c .if2 .taken))
+    (c .before .opcode-length .ensures) (c .if2 .taken))
     (λ c.
     let c2 = c .before .before in
     let c4 = c2 .before .before in
     cut-short After72 (now (c4 .before .before .args .bytes)) (now (c4 .before .before .args .lengths)) (c4 .if1 .left)
-    (c2 .before .byte-at .ensures) (c2 .table-length .ensures) (c .before .if2 .left) (c .if3 .taken))
+    (c2 .before .byte-at .ensures) (c2 .opcode-length .ensures) (c .before .if2 .left) (c .if3 .taken))
     (λ c κs. tt)
     (λ c κs. tt)
     (λ c κs. tt)
@@ -36,4 +36,4 @@ after-72-spec =
     let s = c7 .before .before .before .args in
     rw (c .after-72-entry .ensures, c .before .byte-at4 .ensures, c2 .byte-at3 .ensures, c2 .before .byte-at2 .ensures, c7 .byte-at .ensures)
     (whole After72 (now (s .bytes)) (now (s .lengths)) (c7 .before .if1 .left) (c7 .byte-at .ensures)
-    (c4 .before .before .table-length .ensures) (c4 .before .if2 .left) (c4 .if3 .left))))
+    (c4 .before .before .opcode-length .ensures) (c4 .before .if2 .left) (c4 .if3 .left))))

@@ -1,4 +1,5 @@
 -- `disassembly::instructions::target` meets its contract.
+use native.Mathlib.Nat.{add-assoc}
 use borrow.Author.Needs.{needs}
 use Rattle.disassembly.specs.Notation.{target}
 use Rattle.disassembly.proofs.instructions.target.Statement.{statement}
@@ -10,8 +11,7 @@ target-spec =
     tie.close
     (tie.spec
     (λ c. search needs)
+    (λ c. search needs)
     (λ c κs. search needs)
     (λ c. search needs)
-    (λ c. search needs)
-    (λ c. search needs)
-    (λ c. rw (c .extended .ensures)))
+    (λ c. rw (c .relative .ensures, add-assoc)))

@@ -9,10 +9,10 @@ use Rattle.image.proofs.areas.limits_check.Tie as tie
 returns : tie.Need-returns
 unfolding firstIn limitsCheck
 returns c =
-    let c2 = c .before .before in
-    let c5 = c2 .before .before .before in
-    rw (c .first3 .ensures, c .before .apart-check .ensures, c2 .first2 .ensures, c2 .before .under .ensures)
-    (rw (c5 .first .ensures, c5 .before .area-check2 .ensures, c5 .before .before .area-check .ensures) (simp (first-assoc, first-none)))
+    let c3 = c .before .before .before in
+    let c6 = c3 .before .before .before in
+    rw (c .first3 .ensures, c .before .unless .ensures, c .before .before .apart .ensures, c3 .first2 .ensures, c3 .before .under .ensures)
+    (rw (c6 .first .ensures, c6 .before .area-check2 .ensures, c6 .before .before .area-check .ensures) (simp (first-assoc, first-none)))
 
 pub limits-check-spec : {M : Type 1} → statement M
 limits-check-spec =
@@ -22,6 +22,7 @@ limits-check-spec =
     (λ c κs. search needs)
     (λ c κs. search needs)
     (λ c. search needs)
+    (λ c κs. search needs)
     (λ c κs. search needs)
     (λ c κs. search needs)
     (λ c κs. search needs)

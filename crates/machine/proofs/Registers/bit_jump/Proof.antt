@@ -10,5 +10,4 @@ bit-jump-spec =
     (λ c κs. search needs)
     (λ c κs. search needs)
     (λ c κs. search needs)
-    (λ c κs. search needs)
-    (λ c. rw (c .testing .ensures, c .before .btj .ensures, c .before .before .bit-holds .ensures, c .before .before .before .is-set .ensures)))
+    (λ c. rw (c .testing .ensures, c .before .bit-tested .ensures, c .before .before .bit-holds .ensures)))

@@ -105,14 +105,14 @@ compute-spec =
     (λ c κs. tt)
     (λ c κs. tt)
     (λ c. rw (c .with-a .ensures, c .before .alu .ensures, c .before .before .operand-byte .ensures, c .before .before .before .before .i .given .1))
-    (λ c. rw (c .storing .ensures, c .before .ld .ensures, c .before .before .enum-told .given .1))
+    (λ c. rw (c .storing .ensures, c .before .with-nz-of-byte .ensures, c .before .before .enum-told .given .1))
     (λ c. rw (c .with-a2 .ensures, c .before .half-of .ensures, c .before .before .index .ensures, c .before .before .before .before .i2 .given .1))
     (λ c. rw (c .with-index .ensures, c .before .with-half .ensures, c .before .before .index2 .ensures, c .before .before .before .before .i3 .given .1))
     (λ c. rw (c .into-operand .ensures, c .before .modify .ensures, c .before .before .operand-byte2 .ensures, c .before .before .before .before .i4 .given .1))
     (λ c. rw (c .with-index2 .ensures, c .before .ldw .ensures, c .before .before .operand-word .ensures, c .before .before .before .before .i5 .given .1))
     (λ c.
     let c3 = c .before .before .before in
-    rw (c .storing2 .ensures, c .before .ldw2 .ensures, c .before .before .index4 .ensures, c3 .index3 .ensures, c3 .before .before .i6 .given .1))
+    rw (c .storing2 .ensures, c .before .with-nz-of-word .ensures, c .before .before .index4 .ensures, c3 .index3 .ensures, c3 .before .before .i6 .given .1))
     (λ c. rw (c .with-index3 .ensures, c .before .index5 .ensures, c .before .before .other-of .ensures, c .before .before .before .before .i7 .given .1))
     (λ c. rw (c .with-index4 .ensures, c .before .word-alu .ensures, c .before .before .index6 .ensures, c .before .before .before .before .i8 .given .1))
     (λ c. rw (c .with-index5 .ensures, c .before .word-modify .ensures, c .before .before .index7 .ensures, c .before .before .before .before .i9 .given .1))

@@ -6,48 +6,45 @@ use native.Mathlib.Omega.{arith}
 use denote.Ref.{now}
 use lib.ListN.{length}
 use borrow.Author.Needs.{needs}
+use Rattle.image.specs.Image.{versionOf}
+use Rattle.code.proofs.Sets.{lengths-for}
 use Rattle.machine.specs.Step.{stepRefusal}
-use Rattle.machine.specs.Run.{ran}
+use Rattle.machine.specs.Run.{moreSteps, ran}
 use Rattle.machine.proofs.StepLaws.{same-refusal}
-use Rattle.machine.proofs.RunLaws.{after, after-none, out-finished, out-spent, run-on, run-finished, run-trapped, run-refused, ends}
+use Rattle.machine.proofs.RunLaws.{after-none, out-finished, out-spent, run-on, run-finished, run-trapped, run-refused, ends}
 use Rattle.machine.proofs.Registers.run.Statement.{statement}
 use Rattle.machine.proofs.Registers.run.Tie as tie
 
 abbrev Inv-loop : tie.InvT-loop
-Inv-loop image layout limits memory₀ budget plain after72 after90 registers₀ left₀ memory registers left =
+Inv-loop image layout limits memory₀ budget lengths registers₀ left₀ memory registers left =
     (left ≤ budget) ×
     (length memory ≡ length memory₀) ×
-    (after (budget - left) (ran left image limits registers memory) ≡ ran budget image limits registers₀ memory₀)
+    (moreSteps (budget - left) (ran left image limits registers memory) ≡ ran budget image limits registers₀ memory₀)
 
 abbrev μ-loop : tie.MeasureT-loop
-μ-loop image layout limits memory₀ budget plain after72 after90 registers₀ left₀ memory registers left = left
+μ-loop image layout limits memory₀ budget lengths registers₀ left₀ memory registers left = left
 
 loop-holds : tie.Need-loop-holds Inv-loop μ-loop
 loop-holds c =
-    let a = c .before .before .before .before .before .args in
+    let a = c .before .before .before .args in
     let e : a .budget - a .budget ≡ 0 = omega arith in
     (omega arith, refl, rw e (after-none (ran (a .budget) (now (a .image)) (a .limits) (a .self) (now (a .memory)))))
 
 step-requires : tie.Need-step-requires Inv-loop μ-loop
 step-requires c κs =
-    let c6 = c .before .before .before .before .before .before in (
-      c6 .before .before .before .before .before .pre .0,
-      record {
-        plain-is = c6 .before .before .plain-lengths .ensures;
-        after72-is = c6 .before .after-72-lengths .ensures;
-        after90-is = c6 .after-90-lengths .ensures;
-      },
-    )
+    let c4 = c .before .before .before .before in
+    let start = c4 .before .before .before in
+    (start .pre .0, c4 .map-lengths .ensures ∙ sym (lengths-for (versionOf (now (start .args .image)))))
 
 loop-again : tie.Need-loop-again Inv-loop μ-loop
 loop-again c =
     let c5 = c .before .before .before .before .before in
-    let c10 = c5 .before .before .before .before .before in
-    let v = c10 .before .loop in
-    let start = c10 .before .before .before .before .before .before .before in
+    let c8 = c5 .before .before .before in
+    let v = c8 .before .loop in
+    let start = c8 .before .before .before .before .before in
     let a = start .args in
     let s = c5 .step in
-    let some = c10 .if1 .left in
+    let some = c8 .if1 .left in
     let within = v .inv .0 in
     let h : v .left ≡ v .left - 1 + 1 = omega arith in
     let e : a .budget - (v .left - 1) ≡ a .budget - v .left + 1 = omega arith in (
@@ -61,23 +58,23 @@ loop-again c =
           v .inv .2),
     )
 
-sub-t26 : tie.Need-sub-t26 Inv-loop μ-loop
-sub-t26 c = omega (arith, c .before .loop .inv .0)
+sub-t22 : tie.Need-sub-t22 Inv-loop μ-loop
+sub-t22 c = omega (arith, c .before .loop .inv .0)
 
 same-length : tie.Need-same-length Inv-loop μ-loop
 same-length c =
     let v = c .before .loop in
     ⊎-elim (λ w. ap length (w .3) ∙ v .inv .1)
     (⊎-elim (λ w. ap length (w .3) ∙ v .inv .1)
-    (⊎-elim (λ w. ap length (w .11) ∙ w .5 .kept .1 .1 .1 .1 .0 ∙ v .inv .1)
-    (⊎-elim (λ w. ap length (w .12) ∙ w .5 .kept .1 .1 .1 .1 .0 ∙ v .inv .1)
-    (λ w. ap length (w .12) ∙ w .5 .kept .1 .1 .1 .1 .0 ∙ v .inv .1))))
+    (⊎-elim (λ w. ap length (w .9) ∙ w .3 .kept .1 .1 .1 .1 .0 ∙ v .inv .1)
+    (⊎-elim (λ w. ap length (w .10) ∙ w .3 .kept .1 .1 .1 .1 .0 ∙ v .inv .1)
+    (λ w. ap length (w .10) ∙ w .3 .kept .1 .1 .1 .1 .0 ∙ v .inv .1))))
     (c .if1 .came)
 
 returns : tie.Need-returns Inv-loop μ-loop
 returns c =
     let v = c .before .loop in
-    let start = c .before .before .before .before .before .before .before in
+    let start = c .before .before .before .before .before in
     let a = start .args in
     let k = a .budget - v .left in
     let valid : stepRefusal (now (a .image)) (a .limits) (v .memory) ≡ 0 =
@@ -94,22 +91,22 @@ returns c =
     (λ w.
     let h : v .left ≡ v .left - 1 + 1 = omega (arith, w .0 .left) in
     ends _ _ (v .inv .2)
-    (run-finished (now (a .image)) (a .limits) k (v .registers) (v .memory) valid (v .left) (v .left - 1) h (w .5 .result) _ (w .5 .ensures)
-    (w .10 .given .1))
-    (w .13) (w .12) (w .11))
+    (run-finished (now (a .image)) (a .limits) k (v .registers) (v .memory) valid (v .left) (v .left - 1) h (w .3 .result) _ (w .3 .ensures)
+    (w .8 .given .1))
+    (w .11) (w .10) (w .9))
     (⊎-elim
     (λ w.
     let h : v .left ≡ v .left - 1 + 1 = omega (arith, w .0 .left) in
     ends _ _ (v .inv .2)
-    (run-trapped (now (a .image)) (a .limits) k (v .registers) (v .memory) valid (v .left) (v .left - 1) h (w .5 .result) _ (w .5 .ensures) _
-    (w .10 .given .1))
-    (w .14) (w .13) (w .12))
+    (run-trapped (now (a .image)) (a .limits) k (v .registers) (v .memory) valid (v .left) (v .left - 1) h (w .3 .result) _ (w .3 .ensures) _
+    (w .8 .given .1))
+    (w .12) (w .11) (w .10))
     (λ w.
     let h : v .left ≡ v .left - 1 + 1 = omega (arith, w .0 .left) in
     ends _ _ (v .inv .2)
-    (run-refused (now (a .image)) (a .limits) k (v .registers) (v .memory) valid (v .left) (v .left - 1) h (w .5 .result) _ (w .5 .ensures) _
-    (w .10 .given .1))
-    (w .14) (w .13) (w .12)))))
+    (run-refused (now (a .image)) (a .limits) k (v .registers) (v .memory) valid (v .left) (v .left - 1) h (w .3 .result) _ (w .3 .ensures) _
+    (w .8 .given .1))
+    (w .12) (w .11) (w .10)))))
     (c .if1 .came)
 
 pub run-spec : {M : Type 1} → statement M
@@ -118,8 +115,6 @@ run-spec =
     (tie.spec
     Inv-loop
     μ-loop
-    (λ c κs. search needs)
-    (λ c κs. search needs)
     (λ c κs. search needs)
     loop-holds
     step-requires
@@ -130,6 +125,6 @@ run-spec =
     (λ c. search needs)
     (λ c. search needs)
     (λ c. search needs)
-    sub-t26
+    sub-t22
     same-length
     returns)

@@ -5,7 +5,7 @@ use borrow.Author.Tests.{eq-eqb, ne-eqb}
 use borrow.Author.Needs.{needs}
 use Rattle.numbers.specs.Checks.{first}
 use Rattle.numbers.proofs.Checking.{first-zero}
-use Rattle.stm8.proofs.Longer.{found-within}
+use Rattle.code.proofs.Starts.{found-short}
 use Rattle.machine.specs.Step.{spTrap, pcTrap, decodedStep, stepValid}
 use Rattle.machine.proofs.StepLaws.{finished, trapped-early, decodes, undecoded, pc-trap-is, next-small}
 use Rattle.machine.proofs.Registers.step.Statement.{statement}
@@ -29,16 +29,16 @@ inside : (c : tie.Else2) → let a = c .before .before .before .before .before .
 inside c = first-zero _ _ (sym (trap-is (c .before)) ∙ c .if2 .left) .1
 
 -- what stands at PC was decoded
-decoded : (c : tie.After-decode-at) →
+decoded : (c : tie.After-fetch) →
     let a = c .before .before .before .before .before .before .before .before .args in
     stepValid (now (a .image)) (a .limits) (a .self) (now (a .memory)) ≡
-    decodedStep (now (a .image)) (a .limits) (a .self) (now (a .memory)) (c .decode-at .result)
+    decodedStep (now (a .image)) (a .limits) (a .self) (now (a .memory)) (c .fetch .result)
 decoded c =
     let c2 = c .before .before in
     let c5 = c2 .before .before .before in
     let a = c5 .before .before .before .args in
     decodes (now (a .image)) (a .limits) (a .self) (now (a .memory)) (ne-eqb _ _ (c5 .if1 .left)) _ (trap-is c2) (eq-eqb _ _ (c .before .if2 .left)) ∙
-    ap (decodedStep (now (a .image)) (a .limits) (a .self) (now (a .memory))) (sym (c .decode-at .ensures))
+    ap (decodedStep (now (a .image)) (a .limits) (a .self) (now (a .memory))) (sym (c .fetch .ensures))
 
 returns : tie.Need-returns
 returns c =
@@ -56,8 +56,8 @@ returns-2 c =
       c .answer2 .ensures,
     )
 
-decode-at-requires : tie.Need-decode-at-requires
-decode-at-requires c κs = let start = c .before .before .before .before .before .before .before in (start .pre .0, (inside c, start .pre .1))
+fetch-requires : tie.Need-fetch-requires
+fetch-requires c κs = let start = c .before .before .before .before .before .before .before in (start .pre .0, (inside c, start .pre .1))
 
 returns-3 : tie.Need-returns-3
 returns-3 c =
@@ -65,7 +65,7 @@ returns-3 c =
     let c3 = c2 .before in
     let a = c3 .before .before .before .before .before .before .before .before .args in
     rw (
-      decoded c3 ∙ undecoded (now (a .image)) (a .limits) (a .self) (now (a .memory)) (c3 .decode-at .result) (c2 .match .keys2),
+      decoded c3 ∙ undecoded (now (a .image)) (a .limits) (a .self) (now (a .memory)) (c3 .fetch .result) (c2 .match .keys2),
       c .answer3 .ensures,
       c .before .decoding-trap .ensures,
     )
@@ -75,7 +75,7 @@ perform-requires c κs =
     let c4 = c .before .before .before .before in
     let start = c4 .before .before .before .before .before .before .before .before in
     let a = start .args in
-    let few = found-within _ _ _ (sym (c4 .decode-at .ensures) ∙ c .before .before .decoded .given .1) .1 in
+    let few = found-short (now (a .image)) _ _ (sym (c4 .fetch .ensures) ∙ c .before .before .decoded .given .1) in
     next-small (now (a .image)) (a .layout) (start .pre .0) (a .self .pc) (inside (c4 .before)) _ few
 
 returns-4 : tie.Need-returns-4
@@ -97,7 +97,7 @@ step-spec =
     (λ c κs. search needs)
     (λ c κs. search needs)
     returns-2
-    decode-at-requires
+    fetch-requires
     (λ c. search needs)
     (λ c κs. search needs)
     (λ c κs. search needs)

@@ -1,11 +1,11 @@
 -- `machine::Registers::store` meets its contract.
 use borrow.Author.Needs.{needs}
-use Rattle.machine.specs.Step.{memoryAfter}
+use Rattle.machine.specs.Step.{storedAt, memoryAfter}
 use Rattle.machine.proofs.Registers.store.Statement.{statement}
 use Rattle.machine.proofs.Registers.store.Tie as tie
 
 pub store-spec : {M : Type 1} → statement M
-unfolding memoryAfter
+unfolding storedAt memoryAfter
 store-spec =
     tie.close
     (tie.spec

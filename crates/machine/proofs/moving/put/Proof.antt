@@ -1,10 +1,11 @@
 -- `machine::moving::put` meets its contract.
-use native.Mathlib.Numerals.{add-one}
 use borrow.Author.Needs.{needs}
+use Rattle.machine.specs.Step.{memoryAfter}
 use Rattle.machine.proofs.moving.put.Statement.{statement}
 use Rattle.machine.proofs.moving.put.Tie as tie
 
 pub put-spec : {M : Type 1} → statement M
+unfolding memoryAfter
 put-spec =
     tie.close
     (tie.spec
@@ -31,5 +32,4 @@ put-spec =
       c8 .low2 .ensures,
       c8 .before .high .ensures,
       c8 .before .before .enum-told2 .given .1,
-      add-one,
     )))

@@ -1,9 +1,0 @@
--- `arithmetic::accumulator::subtracted` meets its contract.
-use borrow.Author.Needs.{needs}
-use Rattle.arithmetic.specs.Accumulator.{subtracted}
-use Rattle.arithmetic.proofs.accumulator.subtracted.Statement.{statement}
-use Rattle.arithmetic.proofs.accumulator.subtracted.Tie as tie
-
-pub subtracted-spec : {M : Type 1} → statement M
-unfolding subtracted
-subtracted-spec = tie.close (tie.spec (λ c κs. search needs) (λ c κs. search needs) (λ c. cc))

@@ -1,0 +1,66 @@
+-- The part of an image from one offset of its code to another, of which no more is taken than there is.
+use Prim.Native.Nat.{ℕ, zero, suc, _+_, _-_, _≤_, min}
+use mathlib.Core.Path.{_≡_, refl, ap, sym, _∙_}
+use mathlib.Core.Logic.{by-cases}
+use mathlib.Core.List.{List, [], _∷_}
+use native.Mathlib.Decide.{decLe}
+use native.Mathlib.Omega.{arith}
+use lib.ListN.{length, take, drop, length-drop}
+use lib.Seq.{drop-drop}
+
+-- past the end of a list all counts are one
+take-same : (n m : ℕ) (s : List ℕ) → min n (length s) ≡ min m (length s) → take n s ≡ take m s
+take-same zero zero s e = refl
+take-same zero (suc m) [] e = refl
+take-same zero (suc m) (b ∷ s) e = absurd (omega arith)
+take-same (suc n) zero [] e = refl
+take-same (suc n) zero (b ∷ s) e = absurd (omega arith)
+take-same (suc n) (suc m) [] e = refl
+take-same (suc n) (suc m) (b ∷ s) e = ap (λ t. b ∷ t) (take-same n m s (omega arith))
+
+drop-same : (n m : ℕ) (s : List ℕ) → min n (length s) ≡ min m (length s) → drop n s ≡ drop m s
+drop-same zero zero s e = refl
+drop-same zero (suc m) [] e = refl
+drop-same zero (suc m) (b ∷ s) e = absurd (omega arith)
+drop-same (suc n) zero [] e = refl
+drop-same (suc n) zero (b ∷ s) e = absurd (omega arith)
+drop-same (suc n) (suc m) [] e = refl
+drop-same (suc n) (suc m) (b ∷ s) e = drop-same n m s (omega arith)
+
+-- an offset up to a bound, or to the end where that comes first
+cut : (at end size : ℕ) → at ≤ min end size → min (min end size - at) (size - at) ≡ min (end - at) (size - at)
+cut at end size h =
+    by-cases (decLe end size)
+    (λ le. let m : min end size ≡ end = omega arith in rw m)
+    (λ gt. let m : min end size ≡ size = omega arith in rw m (omega arith))
+
+past : (at end size : ℕ) → min end size ≤ at → min 0 (size - at) ≡ min (end - at) (size - at)
+past at end size h =
+    by-cases (decLe end size)
+    (λ le. let none : end - at ≡ 0 = omega arith in rw none)
+    (λ gt. let none : size - at ≡ 0 = omega arith in rw none (omega arith))
+
+same-front : (front n m : ℕ) → front + n - (front + m) ≡ n - m
+same-front front n m = omega arith
+
+-- a part whose ends are cut to what there is
+within : (s : List ℕ) (at end : ℕ) → let to = min end (length s) in
+    take (to - min at to) (drop (min at to) s) ≡ take (end - at) (drop at s)
+within s at end =
+    let size = length-drop at s in
+    by-cases (decLe at (min end (length s)))
+    (λ le.
+    let from : min at (min end (length s)) ≡ at = omega arith in
+    rw from (take-same (min end (length s) - at) (end - at) (drop at s) (rw size (cut at end (length s) le))))
+    (λ gt.
+    let none : min end (length s) - min at (min end (length s)) ≡ 0 = omega arith in
+    rw none (take-same 0 (end - at) (drop at s) (rw size (past at end (length s) (omega arith)))))
+
+pub part : (image : List ℕ) (code at end from to : ℕ) → from ≡ min code (length image) → to ≡ from + min end (length image - from) →
+    take (to - (from + min at (to - from))) (drop (from + min at (to - from)) image) ≡ take (end - at) (drop at (drop code image))
+part image code at end from to f t =
+    let rest = drop from image in
+    let room : length rest ≡ length image - from = length-drop from image in
+    let n : to - from ≡ min end (length rest) = omega arith in
+    let whole : to ≡ from + min end (length rest) = t ∙ ap (λ k. from + min end k) (sym room) in
+    rw (n, whole, same-front from (min end (length rest)) (min at (min end (length rest))), ← drop-drop (min at (min end (length rest))) from image, within rest at end, drop-same from code image (omega arith))

@@ -1,0 +1,4 @@
+pub mod Set
+pub mod Code
+pub mod Depth
+pub mod Instructions
