@@ -13,11 +13,12 @@ use Rattle.code.specs.Code.{Start}
 use Rattle.rules.specs.Rules.{reportedNeed, Rules}
 use Rattle.rules.proofs.Mapping.{routine-map, greatest-map}
 use Rattle.acceptance.specs.Check.{checked}
+use Rattle.acceptance.specs.Passed.{depthIn}
 use Rattle.acceptance.proofs.Accepting.{accept-sound}
 use Rattle.gate.specs.Start.{begun, cleared, started}
 use Rattle.gate.specs.History.{Request, emptyBook, Point, Moment, pointStarted, history}
 use Rattle.gate.specs.Guarantee.{All, Allowed, Unchanged, Holds}
-use Rattle.gate.specs.GoodPoint.{AtEnd, GoodPoint, depthIn, MakesStep}
+use Rattle.gate.specs.GoodPoint.{AtEnd, GoodPoint, MakesStep}
 use Rattle.gate.proofs.CheckedCode.{CheckedCode}
 use Rattle.gate.proofs.CheckedByRules.{rules-checked}
 use Rattle.gate.proofs.OneStep.{unchanged-none}

@@ -58,10 +58,6 @@ Agree limits f before after = (address : ℕ) → f < address → address ≤ li
 abbrev pub withMemory : Point → List ℕ → Point
 withMemory p memory = record { state = record { registers = p .state .registers; memory = memory }; book = p .book }
 
--- the depths that an accepted check leaves in the marks: each start's mark holds depth + 1
-abbrev pub depthIn : List ℕ → ℕ → ℕ
-depthIn marks o = getD marks o 0 - 1
-
 -- A step is made, of the instruction in the code at PC, and that is what the book is fed.
 pub record MakesStep (image : List ℕ) (limits : Limits) (p : Point) : Type 0 where
   pub instruction : Instruction

@@ -18,17 +18,19 @@ begin-requires c κs =
 returns-2 : tie.Need-returns-2
 returns-2 c =
     let c5 = c .before .before .before .before .before in
-    rw (c .refused2 .ensures)
-    (start-refused _ _ _ _ _ _ _ _ (c5 .before .before .if1 .left) (c5 .check .result) _ (c5 .check .ensures .0) _ _ (c .before .enum-told .given .1),
-    numbered-check (c5 .check .ensures .1))
+    rw (c .refused2 .ensures) (
+      start-refused _ _ _ _ _ _ _ _ (c5 .before .before .if1 .left) (c5 .check .result) _ (c5 .check .ensures .0) _ _ (c .before .enum-told .given .1),
+      numbered-check (c5 .check .ensures .1),
+    )
 
 returns-3 : tie.Need-returns-3
 returns-3 c =
     let c4 = c .before .before .before .before in
     let c8 = c4 .before .before .before .before in
-    rw (c .before .before .begin .ensures .0, c .before .before .begin .ensures .1)
-    (start-accepted _ _ _ _ _ _ _ _ (c8 .before .before .if1 .left) (c8 .check .result) _ (c8 .check .ensures .0) _ _ (c4 .enum-told2 .given .1),
-    numbered-check (c8 .check .ensures .1))
+    rw (c .before .before .begin .ensures .0, c .before .before .begin .ensures .1) (
+      start-accepted _ _ _ _ _ _ _ _ (c8 .before .before .if1 .left) (c8 .check .result) _ (c8 .check .ensures .0) _ _ (c4 .enum-told2 .given .1),
+      numbered-check (c8 .check .ensures .1),
+    )
 
 pub start-spec : {M : Type 1} → statement M
 start-spec =
