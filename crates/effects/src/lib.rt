@@ -63,7 +63,8 @@ fn place_of(x: Operand, w: Width) -> Place
     }
 }
 
-fn writes_back(o: ModifyOp) -> bool
+// Whether an operation stores its result: TNZ does not.
+pub fn writes_back(o: ModifyOp) -> bool
     ensures { λ r. ⌜ r ≡ writesBack o ⌝ }
 {
     match o {

@@ -28,6 +28,7 @@ use Rattle.code.specs.Code.{instructionIn}
 use Rattle.machine.specs.Computing.{computed}
 use Rattle.machine.specs.Step.{result, spTrap, pcTrap, moveTrap, effectTrap, madeBy, made, decodingTrap, decodedStep, stepValid}
 use Rattle.machine.specs.Step.{stepRefusal, stepped}
+use Rattle.machine.specs.Internal.{performed}
 use Rattle.machine.specs.declared.Registers.{Registers}
 use Rattle.machine.specs.declared.Computed.{Computed}
 use Rattle.machine.specs.declared.StepAnswer.the-variants.{Finished, Trap, Refused}
@@ -60,20 +61,11 @@ module _ (image : List ℕ) (limits : Limits) (regs : Registers) (memory : List 
   decodes on trap is none = rw (on, ← is, none)
 
   -- what was decoded is an instruction
-  module _ (i : Instruction) (n trap : ℕ) (is : trap ≡ effectTrap limits (regs .sp) (regs .pc + n) (effect i)) where
-    pub trapped-late : eqb trap 0 ≡ false → decodedStep image limits regs memory (Found i n) ≡ result (Trap trap) regs memory
-    unfolding decodedStep
-    trapped-late some = rw (← is, some)
-
-    pub makes : eqb trap 0 ≡ true → decodedStep image limits regs memory (Found i n) ≡ made image regs memory (regs .pc + n) i
-    unfolding decodedStep
-    makes none = rw (← is, none)
-
-  -- the instruction is made, by what it computes and its effect
-  pub made-by : (i : Instruction) (next : ℕ) (c : Computed) (e : Effect) → c ≡ computed image memory regs next i → e ≡ effect i →
-      made image regs memory next i ≡ madeBy image regs memory next c e
-  unfolding made
-  made-by i next c e p q = rw (p, q)
+  pub found : (i : Instruction) (n : ℕ) →
+      decodedStep image limits regs memory (Found i n) ≡
+      performed image limits regs memory (regs .pc + n) (computed image memory regs (regs .pc + n) i) (effect i)
+  unfolding decodedStep made performed
+  found i n = refl
 
 -- what gives no instruction
 pub undecoded : (image : List ℕ) (limits : Limits) (regs : Registers) (memory : List ℕ) (d : Decoded) →
@@ -120,6 +112,10 @@ module _ (image : List ℕ) (layout : Layout) (valid : ValidLayout image layout)
   next-small n few = let bounds = pc-inside image layout (valid .is) pc inside in omega (arith, valid .top)
 
 -- no trap 24: SP with the pops is inside the stack
+pub pops-inside : (limits : Limits) (sp : ℕ) (e : Effect) → moveTrap limits sp e ≡ 0 → sp + e .pops ≤ limits .stack .high
+unfolding moveTrap
+pops-inside limits sp e none = under-zero _ _ 23 (first-zero _ _ none .0)
+
 pub pops-fit : (limits : Limits) (sp next : ℕ) (e : Effect) → effectTrap limits sp next e ≡ 0 → sp + e .pops ≤ limits .stack .high
-unfolding effectTrap moveTrap
-pops-fit limits sp next e none = under-zero _ _ 23 (first-zero _ _ (passed _ none .0) .0)
+unfolding effectTrap
+pops-fit limits sp next e none = pops-inside limits sp e (passed _ none .0)

@@ -1,8 +1,8 @@
 // The machine: registers, one step and a run.
-mod computing;
 mod moving;
 mod operands;
 mod operations;
+mod performing;
 mod reading;
 mod results;
 mod running;
@@ -19,9 +19,9 @@ use image::Validated;
 // Document 01 gives PC 24 bits; it is held in 32, and a larger value is in no code.
 pub struct Registers {
     pub a: u8,
+    pub cc: u8,
     pub x: u16,
     pub y: u16,
-    pub cc: u8,
     pub sp: u16,
     pub pc: u32,
 }
@@ -30,9 +30,9 @@ pub struct Registers {
 // condition holds.
 pub struct Computed {
     pub a: u8,
+    pub cc: u8,
     pub x: u16,
     pub y: u16,
-    pub cc: u8,
     pub stored: u16,
     pub taken: bool,
 }

@@ -59,6 +59,13 @@ impl Registers {
         }
     }
 
+    // A word that touches no flag.
+    pub(crate) fn with_word(self, r: Register, value: u16) -> Computed
+        ensures { λ c. ⌜ c ≡ withIndex self r (record { value = value; cc = self .cc }) ⌝ }
+    {
+        self.with_index(r, WordResult { value, cc: self.cc })
+    }
+
     pub(crate) fn exchanged(self) -> Computed
         ensures { λ r. ⌜ r ≡ exchangedOf self ⌝ }
     {
@@ -83,6 +90,13 @@ impl Registers {
             stored: value,
             taken: false,
         }
+    }
+
+    // A byte that touches no flag.
+    pub(crate) fn storing_byte(self, value: u8) -> Computed
+        ensures { λ r. ⌜ r ≡ storingOf self value (self .cc) ⌝ }
+    {
+        self.storing(value as u16, self.cc)
     }
 
     pub(crate) fn testing(self, taken: bool, cc: u8) -> Computed

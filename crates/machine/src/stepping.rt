@@ -1,26 +1,23 @@
 // A step of an image and limits that are valid.
 ghost use mathlib.Core.Path.{_≡_};
-ghost use Prim.Native.Nat.{_+_, _-_, _<_};
+ghost use Prim.Native.Nat.{_-_};
 ghost use Rattle.image.specs.Image.{versionOf, baseOf, layoutOf};
 ghost use Rattle.image.specs.Validation.{answer as answerOf};
 ghost use Rattle.image.specs.ValidLayout.{ValidLayout};
 ghost use Rattle.code.specs.Set.{lengthsFor};
 ghost use Rattle.code.specs.Code.{instructionIn};
-ghost use Rattle.machine.specs.Step.{pcTrap, decodingTrap, decodedStep, stepValid, stepRefusal};
+ghost use Rattle.machine.specs.Step.{spTrap, pcTrap, decodingTrap, decodedStep, stepValid, stepRefusal};
 use crate::Registers;
 use crate::StepAnswer;
 use crate::Stepped;
-use crate::traps::effect_trap;
 use crate::traps::pc_trap;
 use crate::traps::sp_trap;
 use code::decode_at;
-use effects::effect_of;
 use image::Layout;
 use image::Limits;
 use image::Validated;
 use numbers::checks::first;
 use stm8::Decoded;
-use stm8::Instruction;
 
 // 17, memory not 32,768 bytes, then 1 to 4.
 pub(crate) fn validate(image: &[u8], limits: Limits, memory: &[u8]) -> Validated
@@ -59,26 +56,27 @@ fn decoding_trap(decoded: Decoded) -> u8
 }
 
 impl Registers {
-    // An instruction of n bytes.
-    fn perform(
+    // The instruction at PC, which is in the code.
+    fn step_inside(
         self,
         image: &[u8],
+        layout: Layout,
         limits: Limits,
         memory: &mut [u8],
-        i: Instruction,
-        n: usize,
+        lengths: &[[u8; 256]; 3],
     ) -> Stepped
-        requires { ⌜ self .pc + n < 0x1000000 ⌝ }
-        ensures { λ r. ⌜ decodedStep (now (image .entry)) limits self (now (memory .entry)) (Decoded.Found i n) ≡ (r, now (memory .exit)) ⌝ }
+        requires valid { ⌜ ValidLayout (now image) layout ⌝ }
+        requires set { ⌜ now lengths ≡ lengthsFor (versionOf (now image)) ⌝ }
+        requires stack { ⌜ spTrap limits (self .sp) ≡ 0 ⌝ }
+        requires inside { ⌜ pcTrap (now image) (self .pc) ≡ 0 ⌝ }
+        ensures { λ r. ⌜ decodedStep (now (image .entry)) limits self (now (memory .entry))
+            (instructionIn (now (image .entry)) (self .pc - baseOf (now (image .entry)))) ≡ (r, now (memory .exit)) ⌝ }
     {
-        let next = self.pc + n as u32;
-        let effect = effect_of(i);
-        let trap = effect_trap(limits, self.sp, next, effect);
-        if trap != 0 {
-            return self.answer(StepAnswer::Trap(trap));
-        }
-        let computed = self.compute(image, memory, next, i);
-        self.made(image, memory, next, computed, effect)
+        let decoded = fetch(image, layout, lengths, self.pc);
+        let Decoded::Found(i, n) = decoded else {
+            return self.answer(StepAnswer::Trap(decoding_trap(decoded)));
+        };
+        self.perform(image, limits, memory, i, self.pc + n as u32)
     }
 
     // One step, by the lengths of the image's op-codes.
@@ -102,10 +100,6 @@ impl Registers {
         if trap != 0 {
             return self.answer(StepAnswer::Trap(trap));
         }
-        let decoded = fetch(image, layout, lengths, pc);
-        let Decoded::Found(i, n) = decoded else {
-            return self.answer(StepAnswer::Trap(decoding_trap(decoded)));
-        };
-        self.perform(image, limits, memory, i, n)
+        self.step_inside(image, layout, limits, memory, lengths)
     }
 }

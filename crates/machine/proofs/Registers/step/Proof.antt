@@ -5,9 +5,8 @@ use borrow.Author.Tests.{eq-eqb, ne-eqb}
 use borrow.Author.Needs.{needs}
 use Rattle.numbers.specs.Checks.{first}
 use Rattle.numbers.proofs.Checking.{first-zero}
-use Rattle.code.proofs.Starts.{found-short}
-use Rattle.machine.specs.Step.{spTrap, pcTrap, decodedStep, stepValid}
-use Rattle.machine.proofs.StepLaws.{finished, trapped-early, decodes, undecoded, pc-trap-is, next-small}
+use Rattle.machine.specs.Step.{spTrap, pcTrap}
+use Rattle.machine.proofs.StepLaws.{finished, trapped-early, decodes, pc-trap-is}
 use Rattle.machine.proofs.Registers.step.Statement.{statement}
 use Rattle.machine.proofs.Registers.step.Tie as tie
 
@@ -25,21 +24,6 @@ trap-is c =
       pc-trap-is (now (a .image)) (a .layout) (start .pre .0 .is) (a .self .pc),
     )
 
-inside : (c : tie.Else2) → let a = c .before .before .before .before .before .before .before .args in pcTrap (now (a .image)) (a .self .pc) ≡ 0
-inside c = first-zero _ _ (sym (trap-is (c .before)) ∙ c .if2 .left) .1
-
--- what stands at PC was decoded
-decoded : (c : tie.After-fetch) →
-    let a = c .before .before .before .before .before .before .before .before .args in
-    stepValid (now (a .image)) (a .limits) (a .self) (now (a .memory)) ≡
-    decodedStep (now (a .image)) (a .limits) (a .self) (now (a .memory)) (c .fetch .result)
-decoded c =
-    let c2 = c .before .before in
-    let c5 = c2 .before .before .before in
-    let a = c5 .before .before .before .args in
-    decodes (now (a .image)) (a .limits) (a .self) (now (a .memory)) (ne-eqb _ _ (c5 .if1 .left)) _ (trap-is c2) (eq-eqb _ _ (c .before .if2 .left)) ∙
-    ap (decodedStep (now (a .image)) (a .limits) (a .self) (now (a .memory))) (sym (c .fetch .ensures))
-
 returns : tie.Need-returns
 returns c =
     let a = c .before .before .before .before .args in
@@ -56,35 +40,21 @@ returns-2 c =
       c .answer2 .ensures,
     )
 
-fetch-requires : tie.Need-fetch-requires
-fetch-requires c κs = let start = c .before .before .before .before .before .before .before in (start .pre .0, (inside c, start .pre .1))
+step-inside-requires : tie.Need-step-inside-requires
+step-inside-requires c κs =
+    let c2 = c .before .before in
+    let start = c2 .before .before .before .before .before .before in
+    let none = first-zero _ _ (sym (trap-is c2) ∙ c .before .if2 .left) in
+    (start .pre .0, (start .pre .1, none))
 
 returns-3 : tie.Need-returns-3
 returns-3 c =
-    let c2 = c .before .before in
-    let c3 = c2 .before in
-    let a = c3 .before .before .before .before .before .before .before .before .args in
-    rw (
-      decoded c3 ∙ undecoded (now (a .image)) (a .limits) (a .self) (now (a .memory)) (c3 .fetch .result) (c2 .match .keys2),
-      c .answer3 .ensures,
-      c .before .decoding-trap .ensures,
-    )
-
-perform-requires : tie.Need-perform-requires
-perform-requires c κs =
     let c4 = c .before .before .before .before in
-    let start = c4 .before .before .before .before .before .before .before .before in
-    let a = start .args in
-    let few = found-short (now (a .image)) _ _ (sym (c4 .fetch .ensures) ∙ c .before .before .decoded .given .1) in
-    next-small (now (a .image)) (a .layout) (start .pre .0) (a .self .pc) (inside (c4 .before)) _ few
-
-returns-4 : tie.Need-returns-4
-returns-4 c =
-    let c5 = c .before .before .before .before .before in
-    let c7 = c5 .before .before in
-    let a = c7 .before .before .before .before .before .before .before .before .args in
-    decoded c7 ∙ ap (decodedStep (now (a .image)) (a .limits) (a .self) (now (a .memory))) (c5 .decoded .given .1) ∙
-    c .before .before .perform .ensures
+    let c5 = c4 .before in
+    let c8 = c5 .before .before .before in
+    let a = c8 .before .before .before .args in
+    decodes (now (a .image)) (a .limits) (a .self) (now (a .memory)) (ne-eqb _ _ (c8 .if1 .left)) _ (trap-is c5) (eq-eqb _ _ (c4 .if2 .left)) ∙
+    c .before .before .step-inside .ensures
 
 pub step-spec : {M : Type 1} → statement M
 step-spec =
@@ -97,11 +67,6 @@ step-spec =
     (λ c κs. search needs)
     (λ c κs. search needs)
     returns-2
-    fetch-requires
+    step-inside-requires
     (λ c. search needs)
-    (λ c κs. search needs)
-    (λ c κs. search needs)
-    returns-3
-    perform-requires
-    (λ c. search needs)
-    returns-4)
+    returns-3)

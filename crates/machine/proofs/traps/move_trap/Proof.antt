@@ -11,12 +11,10 @@ move-trap-spec =
     (tie.spec
     (λ c. search needs)
     (λ c. search needs)
-    (λ c. search needs)
     (λ c κs. search needs)
-    (λ c. search needs)
     (λ c. search needs)
     (λ c. search needs)
     (λ c. search needs)
     (λ c κs. search needs)
     (λ c κs. search needs)
-    (λ c. rw (c .first .ensures, c .before .under2 .ensures, c .before .before .before .before .under .ensures)))
+    (λ c place flow. rw (c .first .ensures, c .before .under2 .ensures, c .before .before .before .under .ensures)))
