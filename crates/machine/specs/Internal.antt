@@ -5,8 +5,11 @@ use mathlib.Core.Bool.{cond}
 use mathlib.Core.List.{List}
 use lib.Dec.{eqb}
 use Rattle.stm8.specs.declared.Place.{Place}
+use Rattle.stm8.specs.Effects.{effect}
 use Rattle.stm8.specs.declared.Effect.{Effect}
+use Rattle.stm8.specs.declared.Instruction.{Instruction}
 use Rattle.image.specs.declared.Limits.{Limits}
+use Rattle.machine.specs.Computing.{computed}
 use Rattle.machine.specs.Step.{Result, result, storeTrap, effectTrap, storedAt, memoryAfter, madeBy}
 use Rattle.machine.specs.declared.Registers.{Registers}
 use Rattle.machine.specs.declared.Computed.{Computed}
@@ -22,6 +25,9 @@ unfoldable pub performed : List ℕ → Limits → Registers → List ℕ → �
 performed image limits regs memory next c e =
     let trap = effectTrap limits (regs .sp) next e in
     cond (eqb trap 0) (madeBy image regs memory next c e) (result (Step.Trap trap) regs memory)
+
+abbrev pub performs : List ℕ → Limits → Registers → List ℕ → ℕ → Instruction → Result
+performs image limits regs memory next i = performed image limits regs memory next (computed image memory regs next i) (effect i)
 
 -- what was computed, with SP and PC
 abbrev pub madeWith : Computed → ℕ → ℕ → Stepped
