@@ -12,8 +12,8 @@ use Rattle.image.specs.declared.Limits.{Limits}
 use Rattle.image.specs.Validation.{refusal}
 use Rattle.machine.specs.Step.{stepped, stepRefusal}
 use Rattle.machine.specs.Run.{ended, afterStep, noStepsLeft, ran}
-use Rattle.machine.specs.declared.StepAnswer.{StepAnswer}
-use Rattle.machine.specs.declared.StepAnswer.the-variants as Step
+use Rattle.execution.specs.declared.StepAnswer.{StepAnswer}
+use Rattle.execution.specs.declared.StepAnswer.the-variants as Step
 use Rattle.machine.specs.declared.RunAnswer.the-variants.{Finished, Spent, Refused}
 use Rattle.machine.specs.declared.Ran.{Ran}
 use Rattle.rules.specs.Rules.{reportedNeed}

@@ -17,9 +17,10 @@ use Rattle.code.specs.Code.{instructionIn}
 use Rattle.image.specs.Rules.{LimitsRules, ImageRules}
 use Rattle.image.specs.Validation.{refusal, validationNumber}
 use Rattle.image.proofs.Validity.{number, rules-valid}
-use Rattle.machine.specs.Computing.{computed}
-use Rattle.machine.specs.Step.{Result, spTrap, pcTrap, effectTrap, pcAfter, made, decodedStep, stepRefusal, stepped}
-use Rattle.machine.specs.declared.Registers.{Registers}
+use Rattle.execution.specs.Computing.{computed}
+use Rattle.execution.specs.Performing.{Result, spTrap, effectTrap, pcAfter, made}
+use Rattle.machine.specs.Step.{pcTrap, decodedStep, stepRefusal, stepped}
+use Rattle.execution.specs.declared.Registers.{Registers}
 use Rattle.machine.proofs.StepLaws.{step-refused, step-valid, finished as finishes, decodes, makes}
 use Rattle.machine.proofs.EffectForms.{effect-form}
 use Rattle.rules.specs.Rules.{reportedNeed, before as usedBefore}

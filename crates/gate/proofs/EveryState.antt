@@ -10,8 +10,8 @@ use lib.Dec.{eqb}
 use lib.ListN.{length, getD, length-append}
 use Rattle.machine.specs.Step.{stepRefusal, stepped}
 use Rattle.machine.specs.Run.{ended, afterStep, noStepsLeft, ran}
-use Rattle.machine.specs.declared.StepAnswer.{StepAnswer}
-use Rattle.machine.specs.declared.StepAnswer.the-variants.{Made, Finished, Trap, Refused}
+use Rattle.execution.specs.declared.StepAnswer.{StepAnswer}
+use Rattle.execution.specs.declared.StepAnswer.the-variants.{Made, Finished, Trap, Refused}
 use Rattle.machine.specs.declared.RunAnswer.{RunAnswer}
 use Rattle.machine.specs.declared.Ran.{Ran}
 use Rattle.gate.specs.History.{Given, Request, step, run, State, Point, Moment, ranTo, pointAfter, momentAfter, stepsFrom, afterSteps}

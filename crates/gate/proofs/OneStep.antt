@@ -23,11 +23,11 @@ use Rattle.stm8.specs.declared.Effect.{Effect}
 use Rattle.image.specs.declared.Limits.{Limits}
 use Rattle.image.specs.Image.{baseOf, countOf, startOf}
 use Rattle.code.specs.Depth.{movesDepth, popped, pushed, after}
-use Rattle.machine.specs.Reading.{readWord}
-use Rattle.machine.specs.Step.{Result, result, moveTrap, callTrap, effectTrap, spAfter, pcAfter, storedAt, memoryAfter}
-use Rattle.machine.specs.declared.Registers.{Registers}
-use Rattle.machine.specs.declared.Computed.{Computed}
-use Rattle.machine.specs.declared.StepAnswer.the-variants.{Made}
+use Rattle.execution.specs.Reading.{readWord}
+use Rattle.execution.specs.Performing.{Result, result, moveTrap, callTrap, effectTrap, spAfter, pcAfter, storedAt, memoryAfter}
+use Rattle.execution.specs.declared.Registers.{Registers}
+use Rattle.execution.specs.declared.Computed.{Computed}
+use Rattle.execution.specs.declared.StepAnswer.the-variants.{Made}
 use Rattle.machine.proofs.Stores.{word-stored, pushed-word, read-memory}
 use Rattle.machine.proofs.EffectForms.{PushesOwn, CallForm, Form}
 use Rattle.code.specs.Code.{instructionAt, Start, begins}

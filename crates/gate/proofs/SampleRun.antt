@@ -22,11 +22,11 @@ use Rattle.image.specs.Validation as Validation
 use Rattle.image.specs.Access.{granted}
 use Rattle.code.specs.Set as Set
 use Rattle.code.specs.Code as Code
-use Rattle.machine.specs.Reading as Reading
-use Rattle.machine.specs.Computing as Computing
+use Rattle.execution.specs.Reading as Reading
+use Rattle.execution.specs.Computing as Computing
 use Rattle.machine.specs.Step as Step
 use Rattle.machine.specs.Run as Run
-use Rattle.machine.specs.declared.StepAnswer.the-variants.{Made}
+use Rattle.execution.specs.declared.StepAnswer.the-variants.{Made}
 use Rattle.machine.specs.declared.RunAnswer.the-variants.{Finished}
 use Rattle.gate.specs.Start.{begun, cleared, started}
 use Rattle.gate.specs.History.{Book, emptyBook, run, Point, pointStarted, Answer, initial, steppedTo, ranTo, Moment, fedTo, history}

@@ -11,9 +11,10 @@ use Rattle.stm8.specs.declared.Instruction.{Instruction}
 use Rattle.stm8.specs.declared.Decoded.the-variants.{Found}
 use Rattle.image.specs.declared.Limits.{Limits}
 use Rattle.image.specs.Image.{baseOf, countOf, startOf, mainOf}
-use Rattle.machine.specs.Step.{made, stepped}
-use Rattle.machine.specs.declared.Registers.{Registers}
-use Rattle.machine.specs.declared.StepAnswer.the-variants.{Made}
+use Rattle.execution.specs.Performing.{made}
+use Rattle.machine.specs.Step.{stepped}
+use Rattle.execution.specs.declared.Registers.{Registers}
+use Rattle.execution.specs.declared.StepAnswer.the-variants.{Made}
 use Rattle.code.specs.Code.{instructionAt, instructionIn, Start}
 use Rattle.gate.specs.History.{Book, Point, flow, fedTo}
 use Rattle.gate.specs.Guarantee.{AtStart}

@@ -11,7 +11,7 @@ use Rattle.image.specs.declared.Limits.{Limits}
 use Rattle.image.specs.Image.{baseOf, countOf}
 use Rattle.image.specs.Access.{Granted}
 use Rattle.image.specs.Validation.{refusal}
-use Rattle.machine.specs.declared.StepAnswer.the-variants as Step
+use Rattle.execution.specs.declared.StepAnswer.the-variants as Step
 use Rattle.machine.specs.declared.RunAnswer.the-variants as Run
 use Rattle.code.specs.Code.{Start}
 use Rattle.gate.specs.History.{Given, Request, givenTo, Answer, initial, steppedTo, ranTo, Moment}

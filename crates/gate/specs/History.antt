@@ -14,8 +14,8 @@ use Rattle.image.specs.Image.{baseOf}
 use Rattle.code.specs.Code.{instructionIn}
 use Rattle.machine.specs.Step.{pcTrap, stepRefusal, stepped}
 use Rattle.machine.specs.Run.{ran}
-use Rattle.machine.specs.declared.Registers.{Registers}
-use Rattle.machine.specs.declared.StepAnswer.{StepAnswer}
+use Rattle.execution.specs.declared.Registers.{Registers}
+use Rattle.execution.specs.declared.StepAnswer.{StepAnswer}
 use Rattle.machine.specs.declared.RunAnswer.{RunAnswer}
 use Rattle.gate.specs.Start.{Result}
 

@@ -10,7 +10,7 @@ use Rattle.image.specs.Image.{baseOf, startOf, mainOf}
 use Rattle.acceptance.specs.Check.{checked}
 use Rattle.rules.specs.declared.Verdict.{Verdict}
 use Rattle.rules.specs.declared.Verdict.the-variants.{Accepted, Refused}
-use Rattle.machine.specs.declared.Registers.{Registers}
+use Rattle.execution.specs.declared.Registers.{Registers}
 use Rattle.gate.specs.declared.Started.{Started}
 
 -- all registers 0

@@ -9,8 +9,8 @@ use Rattle.acceptance.specs.Check.{checked}
 use Rattle.rules.specs.declared.Verdict.{Verdict}
 use Rattle.machine.specs.Step.{stepped, stepNumber}
 use Rattle.machine.specs.Run.{ran, runNumber}
-use Rattle.machine.specs.declared.Registers.{Registers}
-use Rattle.machine.specs.declared.Stepped.{Stepped}
+use Rattle.execution.specs.declared.Registers.{Registers}
+use Rattle.execution.specs.declared.Stepped.{Stepped}
 use Rattle.machine.specs.declared.Ran.{Ran}
 use Rattle.gate.specs.declared.Started.{Started}
 use Rattle.gate_c.specs.Cells.{reportCells, registersIn, registerCells, startedBy, startedCells, steppedCells, ranCells}

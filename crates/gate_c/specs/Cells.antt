@@ -8,7 +8,7 @@ use Rattle.rules.specs.declared.Verdict.{Verdict}
 use Rattle.machine.specs.Step.{stepped, stepNumber}
 use Rattle.machine.specs.Run.{ran, runNumber}
 use Rattle.gate.specs.Start.{Result, started}
-use Rattle.machine.specs.declared.Registers.{Registers}
+use Rattle.execution.specs.declared.Registers.{Registers}
 use Rattle.stm8.specs.declared.Instruction.{Instruction}
 use Rattle.stm8.specs.declared.Decoded.{Decoded}
 use Rattle.stm8.specs.declared.Decoded.the-variants.{Found, Outside, Truncated}

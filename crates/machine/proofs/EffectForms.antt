@@ -16,8 +16,8 @@ use Rattle.stm8.specs.declared.Flow.{Flow}
 use Rattle.stm8.specs.declared.Flow.the-variants.{Next, Branch, Jump, Call, CallRelative, Return}
 use Rattle.stm8.specs.declared.Instruction.{Instruction}
 use Rattle.stm8.specs.declared.Instruction.the-variants as I
-use Rattle.machine.specs.Computing.{computed}
-use Rattle.machine.specs.declared.Registers.{Registers}
+use Rattle.execution.specs.Computing.{computed}
+use Rattle.execution.specs.declared.Registers.{Registers}
 
 -- what is pushed lies in the bytes that are added
 abbrev pub PushesOwn : Place → ℕ → Type 0

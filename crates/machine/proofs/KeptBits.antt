@@ -23,13 +23,14 @@ use Rattle.index_operations.proofs.Kept.{ldw-keeps, word-alu-keeps, word-modify
 use Rattle.image.specs.declared.Limits.{Limits}
 use Rattle.image.specs.Image.{baseOf}
 use Rattle.code.specs.Code.{instructionIn}
-use Rattle.machine.specs.Reading.{readByte, indexOf, byteOf, wordOf}
-use Rattle.machine.specs.Computing.{withIndex, intoOperand, computed}
-use Rattle.machine.specs.Step.{Result, spTrap, pcTrap, effectTrap, made, decodedStep, stepValid, stepRefusal, stepped}
+use Rattle.execution.specs.Reading.{readByte, indexOf, byteOf, wordOf}
+use Rattle.execution.specs.Computing.{withIndex, intoOperand, computed}
+use Rattle.execution.specs.Performing.{Result, spTrap, effectTrap, made, performed}
+use Rattle.machine.specs.Step.{pcTrap, decodedStep, stepValid, stepRefusal, stepped}
 use Rattle.machine.specs.Run.{afterStep, noStepsLeft, ran}
-use Rattle.machine.specs.declared.Registers.{Registers}
-use Rattle.machine.specs.declared.StepAnswer.{StepAnswer}
-use Rattle.machine.specs.declared.StepAnswer.the-variants.{Made, Finished, Trap, Refused}
+use Rattle.execution.specs.declared.Registers.{Registers}
+use Rattle.execution.specs.declared.StepAnswer.{StepAnswer}
+use Rattle.execution.specs.declared.StepAnswer.the-variants.{Made, Finished, Trap, Refused}
 use Rattle.machine.specs.declared.Ran.{Ran}
 
 -- where a result goes makes no difference to CC
@@ -89,7 +90,7 @@ module _ (image : List ℕ) (limits : Limits) where
     KeptIn r = Keeps (regs .cc) (r .0 .registers .cc)
 
     decoded-keeps : (d : Decoded) → KeptIn (decodedStep image limits regs memory d)
-    unfolding decodedStep made KeptIn
+    unfolding decodedStep performed made KeptIn
     decoded-keeps Outside = refl
     decoded-keeps Truncated = refl
     decoded-keeps (Found i n) =

@@ -1,7 +1,5 @@
-pub mod ReadLaws
 pub mod Stores
 pub mod StepLaws
-pub mod Shapes
 pub mod EffectForms
 pub mod StepEffect
 pub mod RunLaws

@@ -22,13 +22,14 @@ use Rattle.image.specs.Access.{granted}
 use Rattle.image.specs.Image.{baseOf}
 use Rattle.image.proofs.RefusalNumbers.{validation-number}
 use Rattle.code.specs.Code.{instructionIn}
-use Rattle.machine.specs.Step.{Result, spTrap, pcTrap, moveTrap, storeTrap, callTrap, effectTrap, made, decodedStep, stepValid}
+use Rattle.execution.specs.Performing.{Result, spTrap, moveTrap, storeTrap, callTrap, effectTrap, made, performed}
+use Rattle.machine.specs.Step.{pcTrap, decodedStep, stepValid}
 use Rattle.machine.specs.Step.{stepRefusal, stepped, StepNumbered}
 use Rattle.machine.specs.Run.{afterStep, noStepsLeft, ran, RunNumbered}
-use Rattle.machine.specs.declared.Registers.{Registers}
-use Rattle.machine.specs.declared.StepAnswer.{StepAnswer}
-use Rattle.machine.specs.declared.StepAnswer.the-variants.{Made, Finished, Trap, Refused}
-use Rattle.machine.specs.declared.Stepped.{Stepped}
+use Rattle.execution.specs.declared.Registers.{Registers}
+use Rattle.execution.specs.declared.StepAnswer.{StepAnswer}
+use Rattle.execution.specs.declared.StepAnswer.the-variants.{Made, Finished, Trap, Refused}
+use Rattle.execution.specs.declared.Stepped.{Stepped}
 use Rattle.machine.specs.declared.RunAnswer.{RunAnswer}
 use Rattle.machine.specs.declared.RunAnswer.the-variants as Run
 use Rattle.machine.specs.declared.Ran.{Ran}
@@ -111,7 +112,7 @@ module _ (image : List ℕ) (limits : Limits) (regs : Registers) (memory : List 
   Unrefused r = StepUnrefused (r .0 .answer)
 
   decoded-unrefused : (d : Decoded) → Unrefused (decodedStep image limits regs memory d)
-  unfolding decodedStep made
+  unfolding decodedStep performed made
   decoded-unrefused Outside = (omega arith, omega arith)
   decoded-unrefused Truncated = (omega arith, omega arith)
   decoded-unrefused (Found i n) =

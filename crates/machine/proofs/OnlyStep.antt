@@ -5,13 +5,14 @@ use mathlib.Core.List.{List}
 use lib.Dec.{eqb}
 use Rattle.numbers.proofs.Checking.{by-test}
 use Rattle.image.specs.declared.Limits.{Limits}
-use Rattle.machine.specs.Step.{Result, result, stepRefusal, stepped}
+use Rattle.execution.specs.Performing.{Result, result}
+use Rattle.machine.specs.Step.{stepRefusal, stepped}
 use Rattle.machine.specs.Run.{afterStep, noStepsLeft, ran}
 use Rattle.machine.specs.Internal.{onlyStep}
-use Rattle.machine.specs.declared.Registers.{Registers}
-use Rattle.machine.specs.declared.StepAnswer.{StepAnswer}
-use Rattle.machine.specs.declared.StepAnswer.the-variants.{Made, Finished, Trap, Refused}
-use Rattle.machine.specs.declared.Stepped.{Stepped}
+use Rattle.execution.specs.declared.Registers.{Registers}
+use Rattle.execution.specs.declared.StepAnswer.{StepAnswer}
+use Rattle.execution.specs.declared.StepAnswer.the-variants.{Made, Finished, Trap, Refused}
+use Rattle.execution.specs.declared.Stepped.{Stepped}
 use Rattle.machine.specs.declared.Ran.{Ran}
 use Rattle.machine.proofs.StepEffect.{kept-step, not-made-finished, not-made-trap, not-made-refused}
 

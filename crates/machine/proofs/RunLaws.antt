@@ -9,11 +9,12 @@ use native.Mathlib.Omega.{arith}
 use lib.Dec.{eqb}
 use borrow.Author.Tests.{eq-eqb, ne-eqb}
 use Rattle.image.specs.declared.Limits.{Limits}
-use Rattle.machine.specs.Step.{Result, result, stepValid, stepRefusal}
+use Rattle.execution.specs.Performing.{Result, result}
+use Rattle.machine.specs.Step.{stepValid, stepRefusal}
 use Rattle.machine.specs.Run.{noStepsLeft, moreSteps, afterStep, ran}
-use Rattle.machine.specs.declared.Registers.{Registers}
-use Rattle.machine.specs.declared.StepAnswer.the-variants as Step
-use Rattle.machine.specs.declared.Stepped.{Stepped}
+use Rattle.execution.specs.declared.Registers.{Registers}
+use Rattle.execution.specs.declared.StepAnswer.the-variants as Step
+use Rattle.execution.specs.declared.Stepped.{Stepped}
 use Rattle.machine.specs.declared.RunAnswer.{RunAnswer}
 use Rattle.machine.specs.declared.RunAnswer.the-variants.{Finished, Spent, Trap, Refused}
 use Rattle.machine.specs.declared.Ran.{Ran}

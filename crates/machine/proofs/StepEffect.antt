@@ -26,13 +26,15 @@ use Rattle.image.specs.Rules.{LimitsRules}
 use Rattle.image.specs.Validation.{validated}
 use Rattle.image.proofs.Layouts.{valid-limits}
 use Rattle.code.specs.Code.{instructionIn}
-use Rattle.machine.specs.Reading.{readWord}
-use Rattle.machine.specs.Computing.{computed}
-use Rattle.machine.specs.Step.{Result, result, spTrap, pcTrap, moveTrap, callTrap, effectTrap, spAfter, pcAfter, bytesFrom}
-use Rattle.machine.specs.Step.{storedAt, memoryAfter, made, decodedStep, stepValid, stepRefusal, stepped}
+use Rattle.execution.specs.Reading.{readWord}
+use Rattle.execution.specs.Computing.{computed}
+use Rattle.execution.specs.Performing.{Result, result, spTrap, moveTrap, callTrap, effectTrap, spAfter, pcAfter, bytesFrom, performed}
+use Rattle.machine.specs.Step.{pcTrap}
+use Rattle.execution.specs.Performing.{storedAt, memoryAfter, made}
+use Rattle.machine.specs.Step.{decodedStep, stepValid, stepRefusal, stepped}
 use Rattle.machine.specs.Changes.{GoesTo, Changes, MadeStep}
-use Rattle.machine.specs.declared.Registers.{Registers}
-use Rattle.machine.specs.declared.StepAnswer.the-variants.{Made, Finished, Trap, Refused}
+use Rattle.execution.specs.declared.Registers.{Registers}
+use Rattle.execution.specs.declared.StepAnswer.the-variants.{Made, Finished, Trap, Refused}
 use Rattle.machine.proofs.Stores.{stored-other, size-kept, word-stored, pushed-word, read-memory}
 use Rattle.machine.proofs.StepLaws.{pops-fit}
 use Rattle.machine.proofs.EffectForms.{effect-form, call-form}
@@ -155,7 +157,7 @@ module _ (image : List ℕ) (limits : Limits) (regs : Registers) (memory : List 
         })
 
     decoded-way : (d : Decoded) → instructionIn image (regs .pc - baseOf image) ≡ d → Way (decodedStep image limits regs memory d)
-    unfolding decodedStep
+    unfolding decodedStep performed
     decoded-way Outside e = trap-keeps 23
     decoded-way Truncated e = trap-keeps 22
     decoded-way (Found i n) e =

@@ -25,13 +25,14 @@ use Rattle.image.specs.ValidLayout.{ValidLayout}
 use Rattle.image.proofs.Layouts.{valid-bounds}
 use Rattle.image.proofs.Validity.{answer-refused, answer-valid}
 use Rattle.code.specs.Code.{instructionIn}
-use Rattle.machine.specs.Computing.{computed}
-use Rattle.machine.specs.Step.{result, spTrap, pcTrap, moveTrap, effectTrap, madeBy, made, decodingTrap, decodedStep, stepValid}
+use Rattle.execution.proofs.Shapes.{pops-inside}
+use Rattle.execution.specs.Computing.{computed}
+use Rattle.execution.specs.Performing.{result, spTrap, moveTrap, effectTrap, madeBy, made, performed}
+use Rattle.machine.specs.Step.{pcTrap, decodingTrap, decodedStep, stepValid}
 use Rattle.machine.specs.Step.{stepRefusal, stepped}
-use Rattle.machine.specs.Internal.{performed}
-use Rattle.machine.specs.declared.Registers.{Registers}
-use Rattle.machine.specs.declared.Computed.{Computed}
-use Rattle.machine.specs.declared.StepAnswer.the-variants.{Finished, Trap, Refused}
+use Rattle.execution.specs.declared.Registers.{Registers}
+use Rattle.execution.specs.declared.Computed.{Computed}
+use Rattle.execution.specs.declared.StepAnswer.the-variants.{Finished, Trap, Refused}
 
 module _ (image : List ℕ) (limits : Limits) (regs : Registers) (memory : List ℕ) where
   pub step-refused : (number : ℕ) → stepRefusal image limits memory ≡ number → (number ≡ 0 → ⊥) →
@@ -63,8 +64,8 @@ module _ (image : List ℕ) (limits : Limits) (regs : Registers) (memory : List 
   -- what was decoded is an instruction
   pub found : (i : Instruction) (n : ℕ) →
       decodedStep image limits regs memory (Found i n) ≡
-      performed image limits regs memory (regs .pc + n) (computed image memory regs (regs .pc + n) i) (effect i)
-  unfolding decodedStep made performed
+      performed image limits regs memory (regs .pc + n) i
+  unfolding decodedStep
   found i n = refl
 
 -- what gives no instruction
@@ -112,10 +113,6 @@ module _ (image : List ℕ) (layout : Layout) (valid : ValidLayout image layout)
   next-small n few = let bounds = pc-inside image layout (valid .is) pc inside in omega (arith, valid .top)
 
 -- no trap 24: SP with the pops is inside the stack
-pub pops-inside : (limits : Limits) (sp : ℕ) (e : Effect) → moveTrap limits sp e ≡ 0 → sp + e .pops ≤ limits .stack .high
-unfolding moveTrap
-pops-inside limits sp e none = under-zero _ _ 23 (first-zero _ _ none .0)
-
 pub pops-fit : (limits : Limits) (sp next : ℕ) (e : Effect) → effectTrap limits sp next e ≡ 0 → sp + e .pops ≤ limits .stack .high
 unfolding effectTrap
 pops-fit limits sp next e none = pops-inside limits sp e (passed _ none .0)

@@ -13,9 +13,9 @@ use Rattle.stm8.specs.declared.Instruction.{Instruction}
 use Rattle.stm8.specs.declared.Decoded.the-variants.{Found}
 use Rattle.image.specs.Image.{baseOf}
 use Rattle.code.specs.Code.{instructionIn}
-use Rattle.machine.specs.Reading.{readWord}
-use Rattle.machine.specs.Step.{storedAt}
-use Rattle.machine.specs.declared.Registers.{Registers}
+use Rattle.execution.specs.Reading.{readWord}
+use Rattle.execution.specs.Performing.{storedAt}
+use Rattle.execution.specs.declared.Registers.{Registers}
 
 -- an address is one of a list
 abbrev pub Among : ℕ → List ℕ → Type 0

@@ -1,5 +1,3 @@
-pub mod Reading
-pub mod Computing
 pub mod Step
 pub mod Run
 pub mod Changes

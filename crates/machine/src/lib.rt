@@ -1,10 +1,4 @@
-// The machine: registers, one step and a run.
-mod moving;
-mod operands;
-mod operations;
-mod performing;
-mod reading;
-mod results;
+// The machine: one step and a run.
 mod running;
 mod stepping;
 mod traps;
@@ -13,41 +7,11 @@ ghost use mathlib.Core.Path.{_≡_};
 ghost use Rattle.machine.specs.Step.{stepRefusal, stepped, stepNumber, StepNumbered};
 ghost use Rattle.machine.specs.Run.{ran, runNumber, RunNumbered};
 ghost use Rattle.machine.specs.Internal.{onlyStep};
+pub use execution::Registers;
+pub use execution::StepAnswer;
+pub use execution::Stepped;
 use image::Limits;
 use image::Validated;
-
-// Document 01 gives PC 24 bits; it is held in 32, and a larger value is in no code.
-pub struct Registers {
-    pub a: u8,
-    pub cc: u8,
-    pub x: u16,
-    pub y: u16,
-    pub sp: u16,
-    pub pc: u32,
-}
-
-// What an instruction computes, apart from what it moves: the registers but SP and PC, the value that it stores, and whether its
-// condition holds.
-pub struct Computed {
-    pub a: u8,
-    pub cc: u8,
-    pub x: u16,
-    pub y: u16,
-    pub stored: u16,
-    pub taken: bool,
-}
-
-pub enum StepAnswer {
-    Made,
-    Finished,
-    Trap(u8),
-    Refused(u8),
-}
-
-pub struct Stepped {
-    pub answer: StepAnswer,
-    pub registers: Registers,
-}
 
 pub enum RunAnswer {
     Finished,
@@ -75,8 +39,10 @@ pub fn run(
 {
     let validated = stepping::validate(image, limits, memory);
     match validated {
-        Validated::Refused(number) => registers.ended(RunAnswer::Refused(number)),
-        Validated::Valid(layout) => registers.run(image, layout, limits, memory, budget),
+        Validated::Refused(number) => running::ended(registers, RunAnswer::Refused(number)),
+        Validated::Valid(layout) => {
+            running::run_valid(registers, image, layout, limits, memory, budget)
+        },
     }
 }
 

@@ -7,58 +7,57 @@ use crate::Ran;
 use crate::Registers;
 use crate::RunAnswer;
 use crate::StepAnswer;
+use crate::stepping::step_valid;
 use image::Layout;
 use image::Limits;
 
-impl Registers {
-    // An answer before any step.
-    pub(crate) fn ended(self, answer: RunAnswer) -> Ran
-        ensures { λ r. ⌜ r ≡ record { answer = answer; registers = self; steps = 0 } ⌝ }
-    {
-        Ran {
-            answer,
-            registers: self,
-            steps: 0,
-        }
+// An answer before any step.
+pub(crate) fn ended(registers: Registers, answer: RunAnswer) -> Ran
+    ensures { λ r. ⌜ r ≡ record { answer = answer; registers = registers; steps = 0 } ⌝ }
+{
+    Ran {
+        answer,
+        registers,
+        steps: 0,
     }
+}
 
-    // The lengths are built once and lent to each step.
-    pub(crate) fn run(
-        self,
-        image: &[u8],
-        layout: Layout,
-        limits: Limits,
-        memory: &mut [u8],
-        budget: u32,
-    ) -> Ran
-        requires valid { ⌜ ValidLayout (now image) layout ⌝ }
-        requires passes { ⌜ stepRefusal (now image) limits (now memory) ≡ 0 ⌝ }
-        ensures { λ r. ⌜ ran budget (now (image .entry)) limits self (now (memory .entry)) ≡ (r, now (memory .exit)) ⌝ }
-    {
-        let lengths = stm8::map_lengths();
-        let mut registers = self;
-        let mut left = budget;
-        let answer = loop {
-            if left == 0 {
-                if registers.pc == 0 {
-                    break RunAnswer::Finished;
-                }
-                break RunAnswer::Spent;
+// The lengths are built once and lent to each step.
+pub(crate) fn run_valid(
+    given: Registers,
+    image: &[u8],
+    layout: Layout,
+    limits: Limits,
+    memory: &mut [u8],
+    budget: u32,
+) -> Ran
+    requires valid { ⌜ ValidLayout (now image) layout ⌝ }
+    requires passes { ⌜ stepRefusal (now image) limits (now memory) ≡ 0 ⌝ }
+    ensures { λ r. ⌜ ran budget (now (image .entry)) limits given (now (memory .entry)) ≡ (r, now (memory .exit)) ⌝ }
+{
+    let lengths = stm8::map_lengths();
+    let mut registers = given;
+    let mut left = budget;
+    let answer = loop {
+        if left == 0 {
+            if registers.pc == 0 {
+                break RunAnswer::Finished;
             }
-            let stepped = registers.step(image, layout, limits, memory, &lengths);
-            let outcome = stepped.answer;
-            registers = stepped.registers;
-            match outcome {
-                StepAnswer::Made => left -= 1,
-                StepAnswer::Finished => break RunAnswer::Finished,
-                StepAnswer::Trap(number) => break RunAnswer::Trap(number),
-                StepAnswer::Refused(number) => break RunAnswer::Refused(number),
-            }
-        };
-        Ran {
-            answer,
-            registers,
-            steps: budget - left,
+            break RunAnswer::Spent;
         }
+        let stepped = step_valid(registers, image, layout, limits, memory, &lengths);
+        let outcome = stepped.answer;
+        registers = stepped.registers;
+        match outcome {
+            StepAnswer::Made => left -= 1,
+            StepAnswer::Finished => break RunAnswer::Finished,
+            StepAnswer::Trap(number) => break RunAnswer::Trap(number),
+            StepAnswer::Refused(number) => break RunAnswer::Refused(number),
+        }
+    };
+    Ran {
+        answer,
+        registers,
+        steps: budget - left,
     }
 }

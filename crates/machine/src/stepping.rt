@@ -6,7 +6,8 @@ ghost use Rattle.image.specs.Validation.{answer as answerOf};
 ghost use Rattle.image.specs.ValidLayout.{ValidLayout};
 ghost use Rattle.code.specs.Set.{lengthsFor};
 ghost use Rattle.code.specs.Code.{instructionIn};
-ghost use Rattle.machine.specs.Step.{spTrap, pcTrap, decodingTrap, decodedStep, stepValid, stepRefusal};
+ghost use Rattle.execution.specs.Performing.{spTrap};
+ghost use Rattle.machine.specs.Step.{pcTrap, decodingTrap, decodedStep, stepValid, stepRefusal};
 use crate::Registers;
 use crate::StepAnswer;
 use crate::Stepped;
@@ -55,51 +56,49 @@ fn decoding_trap(decoded: Decoded) -> u8
     }
 }
 
-impl Registers {
-    // The instruction at PC, which is in the code.
-    fn step_inside(
-        self,
-        image: &[u8],
-        layout: Layout,
-        limits: Limits,
-        memory: &mut [u8],
-        lengths: &[[u8; 256]; 3],
-    ) -> Stepped
-        requires valid { ⌜ ValidLayout (now image) layout ⌝ }
-        requires set { ⌜ now lengths ≡ lengthsFor (versionOf (now image)) ⌝ }
-        requires stack { ⌜ spTrap limits (self .sp) ≡ 0 ⌝ }
-        requires inside { ⌜ pcTrap (now image) (self .pc) ≡ 0 ⌝ }
-        ensures { λ r. ⌜ decodedStep (now (image .entry)) limits self (now (memory .entry))
-            (instructionIn (now (image .entry)) (self .pc - baseOf (now (image .entry)))) ≡ (r, now (memory .exit)) ⌝ }
-    {
-        let decoded = fetch(image, layout, lengths, self.pc);
-        let Decoded::Found(i, n) = decoded else {
-            return self.answer(StepAnswer::Trap(decoding_trap(decoded)));
-        };
-        self.perform(image, limits, memory, i, self.pc + n as u32)
-    }
+// The instruction at PC, which is in the code.
+fn step_inside(
+    registers: Registers,
+    image: &[u8],
+    layout: Layout,
+    limits: Limits,
+    memory: &mut [u8],
+    lengths: &[[u8; 256]; 3],
+) -> Stepped
+    requires valid { ⌜ ValidLayout (now image) layout ⌝ }
+    requires set { ⌜ now lengths ≡ lengthsFor (versionOf (now image)) ⌝ }
+    requires stack { ⌜ spTrap limits (registers .sp) ≡ 0 ⌝ }
+    requires inside { ⌜ pcTrap (now image) (registers .pc) ≡ 0 ⌝ }
+    ensures { λ r. ⌜ decodedStep (now (image .entry)) limits registers (now (memory .entry))
+        (instructionIn (now (image .entry)) (registers .pc - baseOf (now (image .entry)))) ≡ (r, now (memory .exit)) ⌝ }
+{
+    let decoded = fetch(image, layout, lengths, registers.pc);
+    let Decoded::Found(i, n) = decoded else {
+        return registers.answer(StepAnswer::Trap(decoding_trap(decoded)));
+    };
+    registers.step(image, limits, memory, i, registers.pc + n as u32)
+}
 
-    // One step, by the lengths of the image's op-codes.
-    pub(crate) fn step(
-        self,
-        image: &[u8],
-        layout: Layout,
-        limits: Limits,
-        memory: &mut [u8],
-        lengths: &[[u8; 256]; 3],
-    ) -> Stepped
-        requires valid { ⌜ ValidLayout (now image) layout ⌝ }
-        requires set { ⌜ now lengths ≡ lengthsFor (versionOf (now image)) ⌝ }
-        ensures { λ r. ⌜ stepValid (now (image .entry)) limits self (now (memory .entry)) ≡ (r, now (memory .exit)) ⌝ }
-    {
-        let pc = self.pc;
-        if pc == 0 {
-            return self.answer(StepAnswer::Finished);
-        }
-        let trap = first(sp_trap(limits, self.sp), pc_trap(layout, pc));
-        if trap != 0 {
-            return self.answer(StepAnswer::Trap(trap));
-        }
-        self.step_inside(image, layout, limits, memory, lengths)
+// One step, by the lengths of the image's op-codes.
+pub(crate) fn step_valid(
+    registers: Registers,
+    image: &[u8],
+    layout: Layout,
+    limits: Limits,
+    memory: &mut [u8],
+    lengths: &[[u8; 256]; 3],
+) -> Stepped
+    requires valid { ⌜ ValidLayout (now image) layout ⌝ }
+    requires set { ⌜ now lengths ≡ lengthsFor (versionOf (now image)) ⌝ }
+    ensures { λ r. ⌜ stepValid (now (image .entry)) limits registers (now (memory .entry)) ≡ (r, now (memory .exit)) ⌝ }
+{
+    let pc = registers.pc;
+    if pc == 0 {
+        return registers.answer(StepAnswer::Finished);
     }
+    let trap = first(sp_trap(limits, registers.sp), pc_trap(layout, pc));
+    if trap != 0 {
+        return registers.answer(StepAnswer::Trap(trap));
+    }
+    step_inside(registers, image, layout, limits, memory, lengths)
 }

@@ -5,8 +5,8 @@ use mathlib.Core.List.{List}
 use Rattle.image.specs.declared.Limits.{Limits}
 use Rattle.machine.specs.Step.{stepped}
 use Rattle.machine.specs.Run.{ran}
-use Rattle.machine.specs.declared.Registers.{Registers}
-use Rattle.machine.specs.declared.Stepped.{Stepped}
+use Rattle.execution.specs.declared.Registers.{Registers}
+use Rattle.execution.specs.declared.Stepped.{Stepped}
 use Rattle.machine.specs.declared.Ran.{Ran}
 
 module _ (image memory m : List ℕ) (given limits : Limits) (from regs : Registers) (eg : given ≡ limits) (ef : from ≡ regs) where

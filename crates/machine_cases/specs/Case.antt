@@ -6,7 +6,7 @@ use Rattle.numbers.specs.Words.{wordAt}
 use Rattle.image.specs.Image.{limitsOf}
 use Rattle.machine.specs.Step.{stepped}
 use Rattle.machine.specs.Run.{ran}
-use Rattle.machine.specs.declared.Stepped.{Stepped}
+use Rattle.execution.specs.declared.Stepped.{Stepped}
 use Rattle.machine.specs.declared.Ran.{Ran}
 use Rattle.vectors.specs.Bytes.{registersOf}
 

@@ -8,11 +8,12 @@ use lib.ListN.{getD, take, drop}
 use borrow.Author.Tests.{eqb-true}
 use Rattle.image.specs.Image.{limitsOf}
 use Rattle.image.specs.declared.Limits.{Limits}
-use Rattle.machine.specs.Step.{stepped, result}
-use Rattle.machine.specs.declared.Registers.{Registers}
-use Rattle.machine.specs.declared.Stepped.{Stepped}
-use Rattle.machine.specs.declared.StepAnswer.{StepAnswer}
-use Rattle.machine.specs.declared.StepAnswer.the-variants.{Made}
+use Rattle.execution.specs.Performing.{result}
+use Rattle.machine.specs.Step.{stepped}
+use Rattle.execution.specs.declared.Registers.{Registers}
+use Rattle.execution.specs.declared.Stepped.{Stepped}
+use Rattle.execution.specs.declared.StepAnswer.{StepAnswer}
+use Rattle.execution.specs.declared.StepAnswer.the-variants.{Made}
 use Rattle.vectors.specs.Bytes.{registersOf}
 use Rattle.recorded_steps.specs.Record.{longestImage, imageOf, cellsBefore, cellsAfter, Goes, AsRecorded}
 

@@ -5,9 +5,10 @@ use mathlib.Core.Path.{_≡_}
 use mathlib.Core.List.{List, [], _∷_}
 use lib.ListN.{getD, take, drop}
 use Rattle.image.specs.Image.{limitsOf}
-use Rattle.machine.specs.Step.{stepped, result}
-use Rattle.machine.specs.declared.Registers.{Registers}
-use Rattle.machine.specs.declared.StepAnswer.the-variants.{Made}
+use Rattle.execution.specs.Performing.{result}
+use Rattle.machine.specs.Step.{stepped}
+use Rattle.execution.specs.declared.Registers.{Registers}
+use Rattle.execution.specs.declared.StepAnswer.the-variants.{Made}
 use Rattle.vectors.specs.Bytes.{registersOf, withCells}
 
 -- an image with one routine at PC, and room for five bytes of code

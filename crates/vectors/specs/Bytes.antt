@@ -3,7 +3,7 @@ use Prim.Native.Nat.{ℕ, _+_, _*_}
 use mathlib.Core.List.{List, [], _∷_}
 use lib.ListN.{getD, set}
 use Rattle.numbers.specs.Words.{word, wordAt}
-use Rattle.machine.specs.declared.Registers.{Registers}
+use Rattle.execution.specs.declared.Registers.{Registers}
 
 -- A, X, Y, CC, SP and the three bytes of PC
 abbrev pub registersOf : List ℕ → Registers

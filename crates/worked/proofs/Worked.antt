@@ -27,8 +27,8 @@ use Rattle.code.specs.Instructions as Instructions
 use Rattle.acceptance.specs.Starts as Starts
 use Rattle.acceptance.specs.Exploration as Exploration
 use Rattle.acceptance.specs.Check as Check
-use Rattle.machine.specs.Reading as Reading
-use Rattle.machine.specs.Computing as Computing
+use Rattle.execution.specs.Reading as Reading
+use Rattle.execution.specs.Computing as Computing
 use Rattle.machine.specs.Step as Step
 use Rattle.worked.specs.Cases.{outcome, expected, cases}
 

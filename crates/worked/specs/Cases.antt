@@ -10,9 +10,10 @@ use Rattle.image.specs.declared.Limits.{Limits}
 use Rattle.acceptance.specs.Check.{checked}
 use Rattle.rules.specs.declared.Verdict.{Verdict}
 use Rattle.rules.specs.declared.Verdict.the-variants.{Accepted, Refused}
-use Rattle.machine.specs.Step.{Result, result, stepped}
-use Rattle.machine.specs.declared.Registers.{Registers}
-use Rattle.machine.specs.declared.StepAnswer.the-variants.{Made}
+use Rattle.execution.specs.Performing.{Result, result}
+use Rattle.machine.specs.Step.{stepped}
+use Rattle.execution.specs.declared.Registers.{Registers}
+use Rattle.execution.specs.declared.StepAnswer.the-variants.{Made}
 
 -- Examples use grant 0000-00FF, stack 0300-03FF,
 abbrev pub stackFrom : ℕ → Limits

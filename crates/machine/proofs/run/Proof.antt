@@ -8,8 +8,8 @@ use Rattle.machine.proofs.Numbers.{run-answered}
 use Rattle.machine.proofs.run.Statement.{statement}
 use Rattle.machine.proofs.run.Tie as tie
 
-run-requires : tie.Need-run-requires
-run-requires c κs =
+run-valid-requires : tie.Need-run-valid-requires
+run-valid-requires c κs =
     let c2 = c .before .before in
     let c4 = c2 .before .before in
     let a = c4 .before .before .before .before .args in
@@ -29,7 +29,7 @@ returns c =
     ))
 
 returns-2 : tie.Need-returns-2
-returns-2 c = run-answered _ _ _ _ _ _ _ (c .before .before .run .ensures)
+returns-2 c = run-answered _ _ _ _ _ _ _ (c .before .before .run-valid .ensures)
 
 pub run-spec : {M : Type 1} → statement M
 run-spec =
@@ -39,7 +39,7 @@ run-spec =
     (λ c. search needs)
     (λ c κs. search needs)
     (λ c. search needs)
-    run-requires
+    run-valid-requires
     (λ c. search needs)
     returns
     (λ c. search needs)

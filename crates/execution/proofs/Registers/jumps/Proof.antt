@@ -1,0 +1,14 @@
+-- `execution::Registers::jumps` meets its contract.
+use borrow.Author.Needs.{needs}
+use mathlib.Core.Path.{_∙_}
+use Rattle.execution.proofs.Registers.jumps.Statement.{statement}
+use Rattle.execution.proofs.Registers.jumps.Tie as tie
+
+pub jumps-spec : {M : Type 1} → statement M
+jumps-spec =
+    tie.close
+    (tie.spec
+    (λ c κs. search needs)
+    (λ c κs. search needs)
+    (λ c image memory limits flow inside straight is.
+    c .goes .ensures image memory limits (c .before .before .args .next) flow inside straight (c .before .destination .ensures ∙ is)))

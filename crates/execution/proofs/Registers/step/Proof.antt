@@ -1,0 +1,13 @@
+-- `execution::Registers::step` meets its contract: an address of 24 bits is its own remainder.
+use borrow.Author.Needs.{needs}
+use native.Mathlib.Nat.{mod-eq-of-lt}
+use Rattle.execution.proofs.Registers.step.Statement.{statement}
+use Rattle.execution.proofs.Registers.step.Tie as tie
+
+pub step-spec : {M : Type 1} → statement M
+step-spec =
+    tie.close
+    (tie.spec
+    (λ c κs. search needs)
+    (λ c. search needs)
+    (λ c small inside. rw (mod-eq-of-lt small) at (c .before .before .perform .ensures inside)))

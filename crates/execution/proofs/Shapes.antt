@@ -1,0 +1,126 @@
+-- The shapes of an effect: which traps are due, and what is made where none is, each a law with plain hypotheses.
+use Prim.Native.Nat.{ℕ, _+_, _-_, _≤_}
+use mathlib.Core.Path.{_≡_, refl, sym, ap, _∙_}
+use mathlib.Core.Bool.{Bool, true, false, cond}
+use mathlib.Core.List.{List}
+use native.Mathlib.Omega.{arith}
+use lib.Dec.{eqb}
+use borrow.Author.Tests.{ne-eqb}
+use Rattle.numbers.specs.Checks.{first}
+use Rattle.numbers.specs.Folds.{firstIn}
+use Rattle.numbers.proofs.Checking.{first-zero, first-pass, under-zero, under-pass}
+use Rattle.numbers.proofs.Folding.{first-none}
+use Rattle.stm8.specs.Effects.{relative, bytesWide, isCall, jumpFlow, moves, goes}
+use Rattle.stm8.specs.declared.Condition.{Condition}
+use Rattle.stm8.specs.declared.Condition.the-variants.{Jra, Jrf, Jrugt, Jrule, Jrnc, Jrc, Jrne, Jreq, Jrnv, Jrv, Jrpl, Jrmi, Jrsgt, Jrsle, Jrsge, Jrslt}
+use Rattle.stm8.specs.declared.Width.{Width}
+use Rattle.stm8.specs.declared.Place.{Place}
+use Rattle.stm8.specs.declared.Place.the-variants.{Nowhere, Pushed}
+use Rattle.stm8.specs.declared.Flow.{Flow}
+use Rattle.stm8.specs.declared.Effect.{Effect}
+use Rattle.byte_operations.specs.Conditions.{holds}
+use Rattle.image.specs.declared.Limits.{Limits}
+use Rattle.execution.specs.Performing.{result, spTrap, moveTrap, storeTrap, callTrap, effectTrap, spAfter, pcAfter, bytesFrom, storedAt, memoryAfter, madeBy}
+use Rattle.execution.specs.Internal.{performedBy, madeWith, Stored}
+use Rattle.execution.specs.declared.Registers.{Registers}
+use Rattle.execution.specs.declared.Computed.{Computed}
+use Rattle.execution.specs.declared.StepAnswer.the-variants.{Trap}
+
+-- which trap is due
+module _ (limits : Limits) (sp : ℕ) where
+  -- SP in its range stays there
+  pub in-range : spTrap limits sp ≡ 0 → (place : Place) (flow : Flow) →
+      moveTrap limits sp (record { pops = 0; pushes = 0; place = place; flow = flow }) ≡ 0
+  unfolding spTrap moveTrap first
+  in-range inside place flow =
+      let bounds = first-zero _ _ inside in
+      let low = under-zero _ _ 20 (bounds .0) in
+      let high = under-zero _ _ 20 (bounds .1) in
+      rw (under-pass (limits .stack .high) (sp + 0) 24 (omega arith), under-pass (sp + 0 + 1) (limits .stack .low + 0) 24 (omega arith))
+
+  -- no more is popped than the stack holds
+  pub pops-inside : (e : Effect) → moveTrap limits sp e ≡ 0 → sp + e .pops ≤ limits .stack .high
+  unfolding moveTrap
+  pops-inside e none = under-zero _ _ 23 (first-zero _ _ none .0)
+
+  module _ (next : ℕ) where
+    pub no-store : (pops pushes : ℕ) (flow : Flow) → isCall flow ≡ false →
+        effectTrap limits sp next (record { pops = pops; pushes = pushes; place = Nowhere; flow = flow }) ≡
+        moveTrap limits sp (record { pops = pops; pushes = pushes; place = Nowhere; flow = flow })
+    unfolding effectTrap firstIn storeTrap callTrap first
+    no-store pops pushes flow call = rw call (first-none _)
+
+    pub push : (w : Width) (flow : Flow) →
+        effectTrap limits sp next (record { pops = 0; pushes = bytesWide w; place = Pushed w; flow = flow }) ≡
+        first (moveTrap limits sp (record { pops = 0; pushes = bytesWide w; place = Pushed w; flow = flow })) (callTrap next flow)
+    unfolding effectTrap firstIn storeTrap
+    push w flow =
+        let moved = moveTrap limits sp (record { pops = 0; pushes = bytesWide w; place = Pushed w; flow = flow }) in
+        ap (first moved) (first-pass (first (callTrap next flow) 0) ∙ first-none (callTrap next flow))
+
+    pub store : (pops : ℕ) (place : Place) → moveTrap limits sp (moves pops 0 place) ≡ 0 → effectTrap limits sp next (moves pops 0 place) ≡ storeTrap limits sp place
+    unfolding effectTrap firstIn callTrap
+    store pops place none =
+        rw none (first-pass _ ∙ ap (first (storeTrap limits sp place)) (first-pass 0) ∙ first-none (storeTrap limits sp place))
+
+    -- 24 comes before the others
+    pub move-first : (e : Effect) (trap : ℕ) → moveTrap limits sp e ≡ trap → (trap ≡ 0 → ⊥) → effectTrap limits sp next e ≡ trap
+    unfolding effectTrap firstIn first
+    move-first e trap is some = rw (is, ne-eqb trap 0 some)
+
+-- what comes of it
+module _ (image : List ℕ) (limits : Limits) (regs : Registers) (memory : List ℕ) (next : ℕ) (c : Computed) (e : Effect) where
+  pub trapped : (trap : ℕ) → effectTrap limits (regs .sp) next e ≡ trap → (trap ≡ 0 → ⊥) →
+      performedBy image limits regs memory next c e ≡ result (Trap trap) regs memory
+  unfolding performedBy
+  trapped trap is some = rw (is, ne-eqb trap 0 some)
+
+  pub made : effectTrap limits (regs .sp) next e ≡ 0 → (sp pc : ℕ) → spAfter (regs .sp) e ≡ sp → pcAfter image memory (regs .sp) next (c .taken) (e .flow) ≡ pc →
+      performedBy image limits regs memory next c e ≡ (madeWith c sp pc, memoryAfter memory (storedAt (regs .sp) (spAfter (regs .sp) e) (e .place)) (c .stored))
+  unfolding performedBy
+  made none sp pc p q = rw (none, p, q)
+
+-- a store to no place
+pub nothing-stored : (limits : Limits) (sp value : ℕ) (memory : List ℕ) → Stored limits sp Nowhere value memory 0 memory
+unfolding storeTrap storedAt memoryAfter
+nothing-stored limits sp value memory = record { is = refl; after = λ sp′. refl }
+
+-- a jump goes where its condition holds; that of JRA, which has no other way, always does
+pub jump-flow : (image memory : List ℕ) (sp next cc offset : ℕ) (o : Condition) →
+    cond (holds o cc) (relative next offset) next ≡ pcAfter image memory sp next (holds o cc) (jumpFlow o offset)
+unfolding pcAfter
+jump-flow image memory sp next cc offset Jra = refl
+jump-flow image memory sp next cc offset Jrf = refl
+jump-flow image memory sp next cc offset Jrugt = refl
+jump-flow image memory sp next cc offset Jrule = refl
+jump-flow image memory sp next cc offset Jrnc = refl
+jump-flow image memory sp next cc offset Jrc = refl
+jump-flow image memory sp next cc offset Jrne = refl
+jump-flow image memory sp next cc offset Jreq = refl
+jump-flow image memory sp next cc offset Jrnv = refl
+jump-flow image memory sp next cc offset Jrv = refl
+jump-flow image memory sp next cc offset Jrpl = refl
+jump-flow image memory sp next cc offset Jrmi = refl
+jump-flow image memory sp next cc offset Jrsgt = refl
+jump-flow image memory sp next cc offset Jrsle = refl
+jump-flow image memory sp next cc offset Jrsge = refl
+jump-flow image memory sp next cc offset Jrslt = refl
+
+-- and neither way is a call
+pub no-call : (o : Condition) (offset : ℕ) → isCall (jumpFlow o offset) ≡ false
+no-call Jra offset = refl
+no-call Jrf offset = refl
+no-call Jrugt offset = refl
+no-call Jrule offset = refl
+no-call Jrnc offset = refl
+no-call Jrc offset = refl
+no-call Jrne offset = refl
+no-call Jreq offset = refl
+no-call Jrnv offset = refl
+no-call Jrv offset = refl
+no-call Jrpl offset = refl
+no-call Jrmi offset = refl
+no-call Jrsgt offset = refl
+no-call Jrsle offset = refl
+no-call Jrsge offset = refl
+no-call Jrslt offset = refl

@@ -1,0 +1,19 @@
+-- `execution::moving::put_direct` meets its contract.
+use borrow.Author.Needs.{needs}
+use mathlib.Core.Path.{_∙_}
+use Rattle.execution.specs.Performing.{storedAt}
+use Rattle.execution.proofs.moving.put_direct.Statement.{statement}
+use Rattle.execution.proofs.moving.put_direct.Tie as tie
+
+pub put-direct-spec : {M : Type 1} → statement M
+unfolding storedAt
+put-direct-spec =
+    tie.close
+    (tie.spec
+    (λ c κs. search needs)
+    (λ c κs. search needs)
+    (λ c. search needs)
+    (λ c sp.
+    let c2 = c .before .before in
+    let put = c2 .put-unless .ensures in
+    record { is = put .0 ∙ c2 .before .before .direct-trap .ensures sp; after = λ sp′. rw (put .0) (put .1) }))

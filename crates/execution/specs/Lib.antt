@@ -1,0 +1,4 @@
+pub mod Reading
+pub mod Computing
+pub mod Performing
+pub mod Internal
