@@ -67,7 +67,7 @@ module _ (image : List ℕ) (limits : Limits) (regs : Registers) (memory : List 
           step-valid image limits regs memory valid ∙
           decodes image limits regs memory (ne-eqb _ _ on) _ refl (eq-eqb _ _ (sp & inside)) ∙
           ap (decodedStep image limits regs memory) found ∙
-          makes image limits regs memory i n _ refl (eq-eqb _ _ passes)
+          makes image limits regs memory i n passes
 
 module _ (image : List ℕ) (limits : Limits) (depth need : ℕ → ℕ) (code : CheckedCode image limits depth need) where
   -- where a routine stands, in numbers

@@ -26,12 +26,10 @@ use Rattle.image.proofs.Layouts.{valid-bounds}
 use Rattle.image.proofs.Validity.{answer-refused, answer-valid}
 use Rattle.code.specs.Code.{instructionIn}
 use Rattle.execution.proofs.Shapes.{pops-inside}
-use Rattle.execution.specs.Computing.{computed}
-use Rattle.execution.specs.Performing.{result, spTrap, moveTrap, effectTrap, madeBy, made, performed}
+use Rattle.execution.specs.Performing.{result, spTrap, effectTrap, made, performed}
 use Rattle.machine.specs.Step.{pcTrap, decodingTrap, decodedStep, stepValid}
 use Rattle.machine.specs.Step.{stepRefusal, stepped}
 use Rattle.execution.specs.declared.Registers.{Registers}
-use Rattle.execution.specs.declared.Computed.{Computed}
 use Rattle.execution.specs.declared.StepAnswer.the-variants.{Finished, Trap, Refused}
 
 module _ (image : List ℕ) (limits : Limits) (regs : Registers) (memory : List ℕ) where
@@ -67,6 +65,12 @@ module _ (image : List ℕ) (limits : Limits) (regs : Registers) (memory : List 
       performed image limits regs memory (regs .pc + n) i
   unfolding decodedStep
   found i n = refl
+
+  -- and is made where no trap is due
+  pub makes : (i : Instruction) (n : ℕ) → effectTrap limits (regs .sp) (regs .pc + n) (effect i) ≡ 0 →
+      decodedStep image limits regs memory (Found i n) ≡ made image regs memory (regs .pc + n) i
+  unfolding decodedStep performed
+  makes i n none = rw none
 
 -- what gives no instruction
 pub undecoded : (image : List ℕ) (limits : Limits) (regs : Registers) (memory : List ℕ) (d : Decoded) →
