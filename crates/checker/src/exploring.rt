@@ -5,11 +5,11 @@ ghost use lib.ListN.{length};
 ghost use Rattle.control_flow.specs.Graph.{graph};
 ghost use Rattle.control_flow.specs.Routine.{routine};
 ghost use Rattle.control_flow.specs.Exploring.{middle, known, Followed, DepthAfter, Ready, Visited, Explorable, Explored, LowestUnknown};
-use crate::cells::FALL;
-use crate::cells::JUMP;
-use crate::cells::POPS;
-use crate::cells::PUSHES;
-use crate::cells::START;
+use crate::columns::FALL;
+use crate::columns::JUMP;
+use crate::columns::POPS;
+use crate::columns::PUSHES;
+use crate::columns::START;
 use crate::marks::wide;
 
 // What is held for depth 0: `middle` of the definitions.

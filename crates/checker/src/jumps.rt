@@ -4,8 +4,8 @@ ghost use Prim.Native.Nat.{_≤_};
 ghost use Rattle.control_flow.specs.Graph.{column};
 ghost use Rattle.control_flow.specs.Routine.{routine, jumpNumber, jumpCheck};
 ghost use Rattle.control_flow.specs.Exploring.{Tested};
-use crate::cells::JUMP;
-use crate::cells::START;
+use crate::columns::JUMP;
+use crate::columns::START;
 
 // A refusal's number, 0 for none, and the offset that it names.
 pub(crate) struct Refusal {

@@ -1,14 +1,14 @@
--- `checker::cells::callee` meets its contract. The loop's invariant: what is left to search has the same answer as the whole.
+-- `decode_pass::cells::callee` meets its contract. The loop's invariant: what is left to search has the same answer as the whole.
 use Prim.Native.Nat.{ℕ, _-_, _≤_}
 use mathlib.Core.Path.{_≡_, sym, _∙_}
 use mathlib.Core.List.{List}
 use native.Mathlib.Nat.{sub-zero}
 use Rattle.acceptance.specs.Cells.{beginning}
-use Rattle.checker.specs.Internal.{Begins}
-use Rattle.checker.proofs.Callees.{callee-below, callee-above, beginning-stop, beginning-more, beginning-done}
+use Rattle.decode_pass.specs.Pass.{Begins}
+use Rattle.decode_pass.proofs.Callees.{callee-below, callee-above, beginning-stop, beginning-more, beginning-done}
 use native.Mathlib.Omega.{arith}
-use Rattle.checker.proofs.cells.callee.Statement.{statement}
-use Rattle.checker.proofs.cells.callee.Tie as tie
+use Rattle.decode_pass.proofs.cells.callee.Statement.{statement}
+use Rattle.decode_pass.proofs.cells.callee.Tie as tie
 
 abbrev Inv-loop : tie.InvT-loop
 Inv-loop begins base r address base' offset j₀ j =
@@ -22,7 +22,7 @@ returns-2 c =
     let c4 = c .before .before .before .before in
     let inside = c .before .before .before .loop-test .taken in
     λ image e begins.
-    let here = c .before .wide .ensures .0 ∙ begins _ inside in
+    let here = c .before .wide .ensures ∙ begins _ inside in
     sym (beginning-stop image _ _ _ _ inside here (c .if2 .taken)) ∙ c4 .loop .inv .1 image begins ∙
     sym (callee-above image _ _ _ e (c4 .before .if1 .left))
 
@@ -32,7 +32,7 @@ loop-again c =
     let inside = c .before .before .before .loop-test .taken in (
       omega arith,
       λ image begins.
-          let here = c .before .wide .ensures .0 ∙ begins _ inside in
+          let here = c .before .wide .ensures ∙ begins _ inside in
           sym (beginning-more image _ _ _ _ inside here (c .if2 .left)) ∙ c4 .loop .inv .1 image begins,
     )
 

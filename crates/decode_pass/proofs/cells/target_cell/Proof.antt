@@ -1,9 +1,9 @@
--- `checker::cells::target_cell` meets its contract.
+-- `decode_pass::cells::target_cell` meets its contract.
 use Rattle.acceptance.specs.Cells.{targetCell}
 use borrow.Author.Tests.{lt-ltb, le-ltb}
 use borrow.Author.Needs.{needs}
-use Rattle.checker.proofs.cells.target_cell.Statement.{statement}
-use Rattle.checker.proofs.cells.target_cell.Tie as tie
+use Rattle.decode_pass.proofs.cells.target_cell.Statement.{statement}
+use Rattle.decode_pass.proofs.cells.target_cell.Tie as tie
 
 returns : tie.Need-returns
 unfolding targetCell

@@ -23,8 +23,9 @@ use Rattle.code.proofs.Starts.{found-inside, start-low, start-high, next-start}
 use Rattle.control_flow.specs.Graph.{column}
 use Rattle.acceptance.specs.Cells.{Stored}
 use Rattle.acceptance.proofs.CodeFaults.{code-lowest}
-use Rattle.checker.specs.Internal.{RoutineOf, OffEnd, rowOf, StartDecoded, faulty, whole, NoStarts, cellsOf, DecodedTo, RoutineDecoded, refused, filled}
-use Rattle.checker.specs.declared.decoding.Routine.{Routine}
+use Rattle.decode_pass.specs.Pass.{RoutineOf, NoStarts, cellsOf, RoutineDecoded, refused, filled}
+use Rattle.decode_pass.specs.Internal.{OffEnd, rowOf, StartDecoded, faulty, whole, DecodedTo}
+use Rattle.decode_pass.specs.declared.Routine.{Routine}
 
 -- where control does not fall it falls off nothing
 pub falls-not : (end next : ℕ) (flow : Flow) (b : Bool) → b ≡ falls flow → b ≡ false → OffEnd end next flow false
@@ -47,6 +48,11 @@ start-below {image} {r} routine s =
 -- what the decoder's tag says where it finds none
 abbrev NoInstruction : Decoded → Type 0
 NoInstruction d = types.Run.OneOf (1 ∷ 2 ∷ []) (denote.Enum.Declared.tagOf Rattle.stm8.proofs.Decoded.the-type d)
+
+pub number-some : (d : Decoded) {number : ℕ} → NoInstruction d → number ≡ decodingNumber d → 1 ≤ number
+number-some (Found i n) k e = absurd (⊎-elim (λ z. omega arith) (λ z. omega arith) k)
+number-some Outside k e = omega arith
+number-some Truncated k e = omega arith
 
 -- the three ways through a start, with each value as a variable
 module _ {image : List ℕ} {r : Routine} {at : ℕ} (start : Start image (r .index) at) where

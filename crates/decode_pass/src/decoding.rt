@@ -1,27 +1,18 @@
-// The decode pass over a routine: 8, 9 and 15 at each start, rising. Every start is decoded once, and its cells are stored for the passes after it.
+// The starts of a routine, one after the other.
 ghost use mathlib.Core.Path.{_≡_};
-ghost use Rattle.image.specs.Image.{versionOf};
-ghost use Rattle.code.specs.Set.{lengthsFor};
+ghost use Prim.Native.Nat.{_≤_, _<_};
 ghost use Rattle.code.specs.Code.{Start};
-ghost use Rattle.checker.specs.Internal.{Begins, RoutineOf, OffEnd, NoStarts, StartDecoded, RoutineDecoded};
+ghost use Rattle.decode_pass.specs.Pass.{Given, NoStarts, RoutineDecoded};
+ghost use Rattle.decode_pass.specs.Internal.{OffEnd, Small, StartDecoded};
+use crate::Refusal;
+use crate::Routine;
 use crate::cells::row_of;
-use crate::jumps::Refusal;
 use code::decode_at;
 use code::falls;
 use decoder::decoding_number;
 use effects::effect_of;
-use image::Limits;
 use stm8::Decoded;
 use stm8::Flow;
-
-// A routine: its place in the table, the offsets of its first byte and past its last, the base address, and the limits.
-pub struct Routine {
-    pub index: usize,
-    pub start: usize,
-    pub end: usize,
-    pub base: u16,
-    pub limits: Limits,
-}
 
 // What one start gives: the refusal's number, or 0, the offset after its instruction and its cells.
 pub struct Decoding {
@@ -57,9 +48,10 @@ fn decode_start(
     r: Routine,
     at: usize,
 ) -> Decoding
-    requires { ⌜ RoutineOf (now image) r × (now lengths ≡ lengthsFor (versionOf (now image))) × Begins (now image) (now begins) (r .index)
-        × Start (now image) (r .index) at ⌝ }
-    ensures { λ d. ⌜ StartDecoded (now (image .entry)) r at (d .refusal) (d .next) (d .row) ⌝ }
+    requires { ⌜ Small r at ⌝ }
+    ensures { λ d. ⌜ (d .refusal ≡ 0 → (at < d .next) × (d .next ≤ r .end)) ⌝ }
+    ensures { λ d. ⌜ (Given (now (image .entry)) (now (lengths .entry)) (now (begins .entry)) r → Start (now (image .entry)) (r .index) at →
+        StartDecoded (now (image .entry)) r at (d .refusal) (d .next) (d .row)) ⌝ }
 {
     let d = decode_at(image, lengths, at, r.end);
     let Decoded::Found(i, n) = d else {
@@ -79,17 +71,17 @@ fn decode_start(
     }
 }
 
-// The decode pass, to the routine's end or to the first refusal.
-pub(crate) fn decode_routine(
+// Every start, rising, to the routine's end or to the first refusal.
+pub(crate) fn decode_starts(
     image: &[u8],
     lengths: &[[u8; 256]; 3],
     begins: &[u16; 32],
     r: Routine,
     cells: &mut [[u16; 7]; 4096],
 ) -> Refusal
-    requires { ⌜ RoutineOf (now image) r × (now lengths ≡ lengthsFor (versionOf (now image))) × Begins (now image) (now begins) (r .index)
-        × NoStarts (r .start) (now cells) ⌝ }
-    ensures { λ p. ⌜ RoutineDecoded (now (image .entry)) r (now (cells .exit)) (p .number) (p .at) ⌝ }
+    requires { ⌜ (r .end ≤ 4096) × (r .index ≤ 32) ⌝ }
+    ensures { λ p. ⌜ (Given (now (image .entry)) (now (lengths .entry)) (now (begins .entry)) r → NoStarts (r .start) (now (cells .entry)) →
+        RoutineDecoded (now (image .entry)) r (now (cells .exit)) (p .number) (p .at)) ⌝ }
 {
     let end = r.end;
     let mut at = r.start;

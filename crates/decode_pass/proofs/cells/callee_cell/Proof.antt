@@ -1,8 +1,8 @@
--- `checker::cells::callee_cell` meets its contract.
-use Rattle.checker.proofs.Callees.{callee-earlier, callee-none}
+-- `decode_pass::cells::callee_cell` meets its contract.
+use Rattle.decode_pass.proofs.Callees.{callee-earlier, callee-none}
 use borrow.Author.Needs.{needs}
-use Rattle.checker.proofs.cells.callee_cell.Statement.{statement}
-use Rattle.checker.proofs.cells.callee_cell.Tie as tie
+use Rattle.decode_pass.proofs.cells.callee_cell.Statement.{statement}
+use Rattle.decode_pass.proofs.cells.callee_cell.Tie as tie
 
 pub callee-cell-spec : {M : Type 1} → statement M
 callee-cell-spec =

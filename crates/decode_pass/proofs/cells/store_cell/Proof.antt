@@ -1,11 +1,11 @@
--- `checker::cells::store_cell` meets its contract.
+-- `decode_pass::cells::store_cell` meets its contract.
 use native.Mathlib.Omega.{arith}
 use borrow.Author.Tests.{eq-eqb, ne-eqb}
 use borrow.Author.Needs.{needs}
 use Rattle.stm8.proofs.EffectLaws.{wide-some, wide-most}
 use Rattle.acceptance.specs.Cells.{storeCell}
-use Rattle.checker.proofs.cells.store_cell.Statement.{statement}
-use Rattle.checker.proofs.cells.store_cell.Tie as tie
+use Rattle.decode_pass.proofs.cells.store_cell.Statement.{statement}
+use Rattle.decode_pass.proofs.cells.store_cell.Tie as tie
 
 sub-result : tie.Need-sub-result
 sub-result c = omega (arith, c .bytes-wide2 .ensures, wide-some (c .before .before .before .place2 .given .0 .1 .0))

@@ -1,10 +1,10 @@
--- `checker::decoding::off_end` meets its contract.
+-- `decode_pass::decoding::off_end` meets its contract.
 use mathlib.Core.Path.{sym, _∙_}
 use borrow.Author.Tests.{leb-true, leb-false}
 use borrow.Author.Needs.{needs}
-use Rattle.checker.proofs.DecodePass.{falls-not}
-use Rattle.checker.proofs.decoding.off_end.Statement.{statement}
-use Rattle.checker.proofs.decoding.off_end.Tie as tie
+use Rattle.decode_pass.proofs.DecodePass.{falls-not}
+use Rattle.decode_pass.proofs.decoding.off_end.Statement.{statement}
+use Rattle.decode_pass.proofs.decoding.off_end.Tie as tie
 
 returns : tie.Need-returns
 returns c =

@@ -5,10 +5,9 @@ ghost use Prim.Native.Nat.{ℕ, _+_, _≤_};
 ghost use Rattle.stm8.specs.Effects.{relative as relativeTo};
 ghost use Rattle.image.specs.Image.{baseOf};
 ghost use Rattle.acceptance.specs.Cells.{fallCell, targetCell, jumpCell, storeCell, callee as calleeOf, calleeCell, callCell};
-ghost use Rattle.checker.specs.Internal.{Begins, RoutineOf, rowOf};
-use crate::decoding::Routine;
-use crate::marks::wide;
-use code::falls;
+ghost use Rattle.decode_pass.specs.Pass.{Begins, RoutineOf};
+ghost use Rattle.decode_pass.specs.Internal.{rowOf};
+use crate::Routine;
 use code::popped;
 use code::pushed;
 use effects::bytes_wide;
@@ -18,30 +17,6 @@ use image::granted;
 use stm8::Effect;
 use stm8::Flow;
 use stm8::Place;
-
-// The columns of a row: whether an instruction begins at the offset, where control falls and jumps to, the bytes popped and pushed, the least depth
-// of a store, and the callee.
-pub(crate) const START: usize = 0;
-
-pub(crate) const FALL: usize = 1;
-
-pub(crate) const JUMP: usize = 2;
-
-pub(crate) const POPS: usize = 3;
-
-pub(crate) const PUSHES: usize = 4;
-
-pub(crate) const STORE: usize = 5;
-
-pub(crate) const CALL: usize = 6;
-
-// 1 + the offset that control falls to, 0 where it does not fall.
-fn fall_cell(flow: Flow, next: usize) -> u16
-    requires { ⌜ next ≤ 4096 ⌝ }
-    ensures { λ r. ⌜ r ≡ fallCell flow next ⌝ }
-{
-    if falls(flow) { (next + 1) as u16 } else { 0 }
-}
 
 // The address that a relative jump or call goes to; `next` is the offset after it.
 fn target(base: u16, next: usize, offset: u8) -> usize
@@ -67,21 +42,6 @@ fn target_cell(base: u16, start: usize, end: usize, address: usize) -> u16
     }
 }
 
-// The same of a jump's target, 0 where there is no jump.
-fn jump_cell(base: u16, start: usize, end: usize, next: usize, flow: Flow) -> u16
-    requires { ⌜ (start ≤ 4096) × (end ≤ 4096) × (next ≤ 4096) ⌝ }
-    ensures { λ r. ⌜ r ≡ jumpCell base start end next flow ⌝ }
-{
-    match flow {
-        Flow::Next => 0,
-        Flow::Branch(n) => target_cell(base, start, end, target(base, next, n)),
-        Flow::Jump(n) => target_cell(base, start, end, target(base, next, n)),
-        Flow::Call(_) => 0,
-        Flow::CallRelative(_) => 0,
-        Flow::Return => 0,
-    }
-}
-
 // The least depth at which a store is allowed, 256 where it is at none.
 fn store_cell(limits: Limits, place: Place) -> u16
     ensures { λ r. ⌜ r ≡ storeCell limits place ⌝ }
@@ -104,6 +64,13 @@ fn store_cell(limits: Limits, place: Place) -> u16
         }
         Place::Pushed(_) => 0,
     }
+}
+
+// A 16-bit cell as a number.
+fn wide(x: u16) -> usize
+    ensures { λ r. ⌜ r ≡ x ⌝ }
+{
+    x as usize
 }
 
 // The callee of a call from routine r; r where the call goes to no earlier routine's first byte.
@@ -135,18 +102,65 @@ fn callee_cell(begins: &[u16; 32], base: u16, r: usize, address: usize) -> u16
     if k < r { (k + 1) as u16 } else { 255 }
 }
 
-// The same of a call, 0 where there is none.
-fn call_cell(begins: &[u16; 32], base: u16, r: usize, next: usize, flow: Flow) -> u16
-    requires { ⌜ (r ≤ 32) × (next ≤ 4096) ⌝ }
-    ensures { λ x. ⌜ ((image : List ℕ) → base ≡ baseOf image → Begins image (now (begins .entry)) r → x ≡ callCell image r next flow) ⌝ }
+// Where control goes on from an instruction, as cells: by falling, by a jump, and by a call.
+struct Ways {
+    fall: u16,
+    jump: u16,
+    call: u16,
+}
+
+// The ways on from an instruction of a routine that ends at `next`: 0 for each that it has not.
+fn ways_on(r: Routine, begins: &[u16; 32], next: usize, flow: Flow) -> Ways
+    requires { ⌜ (next ≤ 4096) × (r .start ≤ 4096) × (r .end ≤ 4096) × (r .index ≤ 32) ⌝ }
+    ensures { λ w. ⌜ w .fall ≡ fallCell flow next ⌝ }
+    ensures { λ w. ⌜ w .jump ≡ jumpCell (r .base) (r .start) (r .end) next flow ⌝ }
+    ensures { λ w. ⌜ ((image : List ℕ) → r .base ≡ baseOf image → Begins image (now (begins .entry)) (r .index) →
+        w .call ≡ callCell image (r .index) next flow) ⌝ }
 {
+    let fall = (next + 1) as u16;
     match flow {
-        Flow::Next => 0,
-        Flow::Branch(_) => 0,
-        Flow::Jump(_) => 0,
-        Flow::Call(a) => callee_cell(begins, base, r, a as usize),
-        Flow::CallRelative(n) => callee_cell(begins, base, r, target(base, next, n)),
-        Flow::Return => 0,
+        Flow::Next => Ways {
+            fall,
+            jump: 0,
+            call: 0,
+        },
+        Flow::Branch(n) => {
+            let jump = target_cell(r.base, r.start, r.end, target(r.base, next, n));
+            Ways {
+                fall,
+                jump,
+                call: 0,
+            }
+        }
+        Flow::Jump(n) => {
+            let jump = target_cell(r.base, r.start, r.end, target(r.base, next, n));
+            Ways {
+                fall: 0,
+                jump,
+                call: 0,
+            }
+        }
+        Flow::Call(a) => {
+            let call = callee_cell(begins, r.base, r.index, a as usize);
+            Ways {
+                fall,
+                jump: 0,
+                call,
+            }
+        }
+        Flow::CallRelative(n) => {
+            let call = callee_cell(begins, r.base, r.index, target(r.base, next, n));
+            Ways {
+                fall,
+                jump: 0,
+                call,
+            }
+        }
+        Flow::Return => Ways {
+            fall: 0,
+            jump: 0,
+            call: 0,
+        },
     }
 }
 
@@ -159,11 +173,9 @@ pub(crate) fn row_of(r: Routine, begins: &[u16; 32], next: usize, e: Effect) -> 
     let place = e.place;
     let flow = e.flow;
     let limits = r.limits;
-    let fall = fall_cell(flow, next);
-    let jump = jump_cell(r.base, r.start, r.end, next, flow);
+    let ways = ways_on(r, begins, next, flow);
     let pops = popped(e) as u16;
     let pushes = pushed(e) as u16;
     let store = store_cell(limits, place);
-    let call = call_cell(begins, r.base, r.index, next, flow);
-    [1, fall, jump, pops, pushes, store, call]
+    [1, ways.fall, ways.jump, pops, pushes, store, ways.call]
 }
