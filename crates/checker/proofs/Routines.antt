@@ -22,7 +22,7 @@ use Rattle.rules.specs.Rules.{countBelow}
 use Rattle.rules.proofs.RefusalNumbers.{routine-refusal-at}
 use Rattle.control_flow.specs.Graph.{column}
 use Rattle.control_flow.specs.Routine as cells
-use Rattle.control_flow.specs.Exploring.{Checkable, Left}
+use Rattle.control_flow.specs.Outcome.{Checkable, Left}
 use Rattle.acceptance.specs.Cells.{Filled}
 use Rattle.acceptance.specs.Passed.{marked, RoutineChecked, RoutinesPassed}
 use Rattle.acceptance.proofs.Graphs.{decoded}

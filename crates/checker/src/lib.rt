@@ -1,12 +1,6 @@
 // The check of an image under limits: refusals 1 to 16, the marks, the need and the count.
-mod columns;
-mod exploring;
-mod flow;
-mod jumps;
 mod marks;
-mod measuring;
 mod sweep;
-mod uses;
 
 pub use rules::Verdict;
 ghost use mathlib.Core.Path.{_≡_};
