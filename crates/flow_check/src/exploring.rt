@@ -1,5 +1,6 @@
 // Exploring the control flow of one routine: every reached start once, with the depth of a path to it.
 ghost use mathlib.Core.Path.{_≡_};
+ghost use mathlib.Core.List.{List};
 ghost use Prim.Native.Nat.{ℕ, _+_, _-_, _≤_, _<_};
 ghost use lib.ListN.{length, getD};
 ghost use Rattle.control_flow.specs.Graph.{graph};
@@ -18,13 +19,14 @@ use std::num::wrapping_sub_u32;
 // What is held for depth 0: `middle` of the definitions.
 pub(crate) const MIDDLE: usize = 536870912;
 
-// The state of an exploration: how many offsets the stack holds, whether the last step put one there, and which, and whether every edge so far
-// agrees with the depths. The top of the stack is kept beside it, since what was just stored is slow to read back.
-struct Exploration {
-    height: usize,
-    fresh: bool,
-    top: usize,
-    agree: bool,
+// The state of an exploration: how many offsets the stack holds, whether the last step put one there, which and at what depth, and whether every edge
+// so far agrees with the depths. The top is kept beside the arrays, since what was just stored is slow to read back.
+pub(crate) struct Exploration {
+    pub height: usize,
+    pub fresh: bool,
+    pub top: usize,
+    pub depth: u32,
+    pub agree: bool,
 }
 
 // One edge, to offset `to` - 1, where the depth is `depth`; there is none where `to` is 0.
@@ -39,7 +41,7 @@ fn follow(
     ensures { λ r. ⌜ r .height ≤ e .height + 1 ⌝ }
     ensures { λ r. ⌜ (Followable to depth (now (depths .entry)) (now (stack .entry)) (e .height) →
         Followed to depth (now (depths .entry)) (now (stack .entry)) (e .height) (e .agree) (now (depths .exit)) (now (stack .exit)) (r .height) (r .agree)
-        × (Noted (now (stack .entry)) (e .height) (e .fresh) (e .top) → Noted (now (stack .exit)) (r .height) (r .fresh) (r .top))) ⌝ }
+        × (Noted (now (depths .entry)) (now (stack .entry)) e → Noted (now (depths .exit)) (now (stack .exit)) r)) ⌝ }
 {
     if to == 0 {
         return e;
@@ -54,6 +56,7 @@ fn follow(
             height: height + 1,
             fresh: true,
             top: t,
+            depth,
             agree: e.agree,
         };
     }
@@ -64,6 +67,7 @@ fn follow(
         height: e.height,
         fresh: e.fresh,
         top: e.top,
+        depth: e.depth,
         agree: false,
     }
 }
@@ -75,32 +79,34 @@ fn depth_after(depth: u32, pushed: u16, popped: u16) -> u32
     wrapping_sub_u32(wrapping_add_u32(depth, pushed as u32), popped as u32)
 }
 
-// Offset o, which has left the stack, is visited: each of its edges is followed.
+// Offset o, which has left the stack, is visited at its depth: each of its edges is followed.
 fn visit(
     cells: &[[u16; 7]; 4096],
     depths: &mut [u32; 4096],
     stack: &mut [u16; 4096],
     o: usize,
+    depth: u32,
     e: Exploration,
 ) -> Exploration
     requires { ⌜ (o < 4096) × (e .height < 4096) ⌝ }
     ensures { λ r. ⌜ r .height ≤ e .height + 2 ⌝ }
     ensures { λ r. ⌜ (Ready (graph o (now (cells .entry))) (now (depths .entry)) (e .height) o → length (now (stack .entry)) ≡ 4096 →
+        depth ≡ getD (now (depths .entry)) o 0 →
         ((entry : ℕ) → Visited 65535 (graph entry (now (cells .entry))) o
         (now (depths .entry)) (now (stack .entry)) (e .height) (e .agree) (now (depths .exit)) (now (stack .exit)) (r .height) (r .agree))
-        × (Noted (now (stack .entry)) (e .height) (e .fresh) (e .top) → Noted (now (stack .exit)) (r .height) (r .fresh) (r .top))) ⌝ }
+        × (Noted (now (depths .entry)) (now (stack .entry)) e → Noted (now (depths .exit)) (now (stack .exit)) r)) ⌝ }
 {
     let row = cells[o];
-    let depth = depth_after(depths[o], row[PUSHES], row[POPS]);
-    let fallen = follow(row[FALL], depth, depths, stack, e);
-    follow(row[JUMP], depth, depths, stack, fallen)
+    let after = depth_after(depth, row[PUSHES], row[POPS]);
+    let fallen = follow(row[FALL], after, depths, stack, e);
+    follow(row[JUMP], after, depths, stack, fallen)
 }
 
 // The offset on top of the stack.
 fn top_of(stack: &[u16; 4096], e: Exploration) -> usize
     requires { ⌜ (1 ≤ e .height) × (e .height ≤ 4096) ⌝ }
     ensures { λ r. ⌜ r < 4096 ⌝ }
-    ensures { λ r. ⌜ (Noted (now (stack .entry)) (e .height) (e .fresh) (e .top) → getD (now (stack .entry)) (e .height - 1) 0 < 4096 →
+    ensures { λ r. ⌜ ((depths : List ℕ) → Noted depths (now (stack .entry)) e → getD (now (stack .entry)) (e .height - 1) 0 < 4096 →
         r ≡ getD (now (stack .entry)) (e .height - 1) 0) ⌝ }
 {
     if e.fresh {
@@ -108,6 +114,14 @@ fn top_of(stack: &[u16; 4096], e: Exploration) -> usize
     }
     let top = e.height - 1;
     wide(stack[top]) % 4096
+}
+
+// The depth there.
+fn depth_of(depths: &[u32; 4096], o: usize, e: Exploration) -> u32
+    requires { ⌜ o < 4096 ⌝ }
+    ensures { λ r. ⌜ ((stack : List ℕ) → Noted (now (depths .entry)) stack e → o ≡ getD stack (e .height - 1) 0 → r ≡ getD (now (depths .entry)) o 0) ⌝ }
+{
+    if e.fresh { e.depth } else { depths[o] }
 }
 
 // At every offset that is reached from the entry the depth of a path to it is noted. Says whether all paths agree on every depth. Each visit is of
@@ -128,6 +142,7 @@ pub(crate) fn explore(
         height: 1,
         fresh: false,
         top: 0,
+        depth: 0,
         agree: true,
     };
     let mut left = 4096usize;
@@ -136,13 +151,15 @@ pub(crate) fn explore(
             return e.agree;
         }
         let o = top_of(&*stack, e);
+        let depth = depth_of(&*depths, o, e);
         let rest = Exploration {
             height: e.height - 1,
             fresh: false,
             top: 0,
+            depth: 0,
             agree: e.agree,
         };
-        e = visit(cells, depths, stack, o, rest);
+        e = visit(cells, depths, stack, o, depth, rest);
         left -= 1;
     }
     e.agree

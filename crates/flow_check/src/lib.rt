@@ -8,8 +8,13 @@ mod uses;
 ghost use mathlib.Core.Path.{_≡_};
 ghost use Prim.Native.Nat.{_≤_, _<_};
 ghost use lib.ListN.{length};
+ghost use mathlib.Core.Bool.{true, false};
+ghost use Rattle.control_flow.specs.Graph.{cells as heldIn};
 ghost use Rattle.control_flow.specs.Routine.{routine};
 ghost use Rattle.control_flow.specs.Outcome.{FlowOutcome, Checkable, Left};
+ghost use Rattle.control_flow.specs.Exploring.{middle};
+ghost use Rattle.control_flow.specs.Measuring.{Measurable};
+ghost use Rattle.flow_check.specs.Internal.{DepthsTested};
 use crate::exploring::explore;
 use crate::exploring::lowest_unknown;
 use crate::jumps::check_jumps;
@@ -36,7 +41,33 @@ fn refused(number: u8, at: usize, counted: usize) -> Checked
     }
 }
 
-// Its passes, one after the other.
+// 7 where the depths disagree, else 11, 12 and 14.
+fn check_agreed(
+    agree: bool,
+    entry: usize,
+    end: usize,
+    cells: &[[u16; 7]; 4096],
+    needs: &[u16; 32],
+    counted: usize,
+    depths: &[u32; 4096],
+    marks: &mut [u16],
+) -> Checked
+    requires { ⌜ (entry ≤ end) × (end ≤ 4096) × (end ≤ length (now marks)) × (counted ≤ entry) ⌝ }
+    ensures { λ r. ⌜ (let x = routine entry end (now (cells .entry)) in agree ≡ true →
+        Measurable x middle (heldIn (now (depths .entry))) (now (marks .entry)) counted →
+        DepthsTested x (now (needs .entry)) middle (heldIn (now (depths .entry))) (now (marks .entry)) counted
+        (r .refusal) (r .at) (now (marks .exit)) (r .need) (r .count)) ⌝ }
+    ensures { λ r. ⌜ (agree ≡ false → (r .refusal ≡ 7) × (r .at ≡ entry)) ⌝ }
+{
+    if agree {
+        check_depths(entry, end, cells, needs, counted, depths, marks)
+    } else {
+        refused(7, entry, counted)
+    }
+}
+
+// Its passes, one after the other. Where 11, 12 and 14 pass everywhere, every start has a depth and is reached; only where one of them fails, or 7,
+// a start that is not reached is looked for, since 6 comes first.
 fn check_passes(
     entry: usize,
     end: usize,
@@ -58,15 +89,15 @@ fn check_passes(
         return refused(strayed.number, strayed.at, counted);
     }
     let agree = explore(entry, cells, depths, stack);
+    let x = check_agreed(agree, entry, end, cells, needs, counted, &*depths, marks);
+    if x.refusal == 0 {
+        return x;
+    }
     let lowest = lowest_unknown(entry, end, cells, &*depths);
     if lowest < end {
         return refused(6, lowest, counted);
     }
-    if agree {
-        check_depths(entry, end, cells, needs, counted, &*depths, marks)
-    } else {
-        refused(7, entry, counted)
-    }
+    x
 }
 
 // 13 and 10; 6 at the lowest unreached start; 7 at the first byte where two paths disagree on a depth; 11, 12 and 14. Where it passes the marks hold

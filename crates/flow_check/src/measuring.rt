@@ -2,11 +2,12 @@
 ghost use mathlib.Core.Path.{_≡_};
 ghost use Prim.Native.Nat.{ℕ, _≤_, _<_};
 ghost use lib.ListN.{length};
+ghost use Rattle.numbers.specs.Checks.{both, under, differ};
 ghost use Rattle.control_flow.specs.Graph.{cells as heldIn};
-ghost use Rattle.control_flow.specs.Routine.{routine, depthNumber, depthCheck};
-ghost use Rattle.control_flow.specs.Outcome.{Measured};
-ghost use Rattle.control_flow.specs.Exploring.{middle, Tested};
+ghost use Rattle.control_flow.specs.Routine.{routine, depthNumber};
+ghost use Rattle.control_flow.specs.Exploring.{middle};
 ghost use Rattle.control_flow.specs.Measuring.{DepthStep, Measurable};
+ghost use Rattle.flow_check.specs.Internal.{DepthsTested};
 use crate::Checked;
 use crate::columns::CALL;
 use crate::columns::FALL;
@@ -18,10 +19,19 @@ use crate::columns::STORE;
 use crate::exploring::MIDDLE;
 use crate::uses::larger;
 use crate::uses::used;
-use numbers::checks::both;
-use numbers::checks::differ;
-use numbers::checks::first;
-use numbers::checks::under;
+
+// 11 where control does not go on and the depth, held as `held`, is not 0.
+fn back_number(held: usize, falls: u16, jumps: u16) -> u8
+    ensures { λ r. ⌜ r ≡ both (under falls 1 11) (both (under jumps 1 11) (differ held middle 11)) ⌝ }
+{
+    if falls != 0 {
+        return 0;
+    }
+    if jumps != 0 {
+        return 0;
+    }
+    if held == MIDDLE { 0 } else { 11 }
+}
 
 // 11, 12 or 14 for an instruction by its cells, where its depth is held as `held`.
 fn depth_number(
@@ -38,16 +48,26 @@ fn depth_number(
     let held = held as usize;
     let raised = held + pushes as usize;
     let pops = pops as usize;
-    let called = under(32, call as usize, 14);
-    let stored = first(under(held, MIDDLE + store as usize, 12), called);
-    let back = both(under(jumps as usize, 1, 11), differ(held, MIDDLE, 11));
-    let back = first(both(under(falls as usize, 1, 11), back), stored);
-    let high = first(under(MIDDLE + 255 + pops, raised, 11), back);
-    let low = first(under(raised, MIDDLE + pops, 11), high);
-    first(
-        under(held, MIDDLE, 11),
-        first(under(MIDDLE + 255, held, 11), low),
-    )
+    if held < MIDDLE {
+        return 11;
+    }
+    if MIDDLE + 255 < held {
+        return 11;
+    }
+    if raised < MIDDLE + pops {
+        return 11;
+    }
+    if MIDDLE + 255 + pops < raised {
+        return 11;
+    }
+    let back = back_number(held, falls, jumps);
+    if back != 0 {
+        return back;
+    }
+    if held < MIDDLE + store as usize {
+        return 12;
+    }
+    if 32 < call { 14 } else { 0 }
 }
 
 // One offset: nothing where it is no start, else 11, 12 and 14, its mark, its use and the count.
@@ -107,9 +127,10 @@ pub(crate) fn check_depths(
     marks: &mut [u16],
 ) -> Checked
     requires { ⌜ (entry ≤ end) × (end ≤ 4096) × (end ≤ length (now marks)) × (counted ≤ entry) ⌝ }
-    ensures { λ r. ⌜ (let x = routine entry end (now (cells .entry)) in Measurable x middle (heldIn (now (depths .entry))) (now (marks .entry)) counted →
-        Tested x (depthCheck x middle (heldIn (now (depths .entry)))) (r .refusal) (r .at)
-        × (r .refusal ≡ 0 → Measured x (now (needs .entry)) middle (heldIn (now (depths .entry))) (now (marks .entry)) (now (marks .exit)) counted (r .need) (r .count))) ⌝ }
+    ensures { λ r. ⌜ (let x = routine entry end (now (cells .entry)) in
+        Measurable x middle (heldIn (now (depths .entry))) (now (marks .entry)) counted →
+        DepthsTested x (now (needs .entry)) middle (heldIn (now (depths .entry))) (now (marks .entry)) counted
+        (r .refusal) (r .at) (now (marks .exit)) (r .need) (r .count)) ⌝ }
 {
     let mut c = Checked {
         refusal: 0,

@@ -4,13 +4,11 @@ use mathlib.Core.Path.{_≡_}
 use native.Mathlib.Omega.{arith}
 use borrow.Author.Needs.{needs}
 use denote.Ref.{now}
-use lib.ListN.{length}
 use Rattle.control_flow.specs.Routine.{Routine, routine, WellFormed, jumpCheck}
 use Rattle.control_flow.specs.Outcome.{Passes, strayed, Checkable}
-use Rattle.control_flow.specs.Exploring.{middle, Explored}
 use Rattle.control_flow.proofs.Numbers.{well-formed}
-use Rattle.control_flow.proofs.Outcomes.{tested-fails, tested-passes, outcome-by, untouched, explorable, left, measurable}
-use Rattle.control_flow.proofs.Outcomes.{unreached-at, disagreeing-at, tested-at}
+use Rattle.control_flow.proofs.Outcomes.{tested-fails, tested-passes, outcome-by, untouched, explorable, left, measurable, unreached-at}
+use Rattle.flow_check.proofs.Flows.{outcome-passes, outcome-fails}
 use Rattle.flow_check.proofs.check_passes.Statement.{statement}
 use Rattle.flow_check.proofs.check_passes.Tie as tie
 
@@ -35,41 +33,41 @@ returns c asks =
 
 returns-2 : tie.Need-returns-2
 returns-2 c asks =
-    let w = c .before .before in
-    let f = w .before .before in
+    let g = c .before .before .before .before in
+    let f = g .before .before .before in
     let e = f .before .before .before in
-    let found = f .explore .ensures (explorable (formed e asks) (asks .clear) (asks .cells) (asks .slots)) in
-    let r = c .refused2 .ensures in (
-      outcome-by (r .0) (r .1)
-          (unreached-at (formed e asks) (asks .clear) (found .0) (w .lowest-unknown .ensures) (landed e) (c .before .if2 .taken)),
+    let s = e .before .before .before .before in
+    let found = f .explore .ensures (explorable (formed e asks) (asks .clear) (asks .cells) (asks .slots)) in (
+      outcome-passes (formed e asks) (asks .clear) (found .0) (landed e)
+          (λ a. g .check-agreed .ensures .0 a (measurable (formed e asks) (asks .clear) (found .0) a (s .pre .2) (s .pre .3)))
+          (g .check-agreed .ensures .1) (c .if2 .taken),
       left (formed e asks) (asks .clear) (found .0) (found .1),
     )
 
 returns-3 : tie.Need-returns-3
 returns-3 c asks =
-    let d = c .before .before in
-    let t = d .before .before .before in
-    let w = t .before .before in
-    let f = w .before .before in
+    let w = c .before .before in
+    let g = w .before .before .before .before .before .before in
+    let f = g .before .before .before in
     let e = f .before .before .before in
-    let s = e .before .before .before .before in
     let found = f .explore .ensures (explorable (formed e asks) (asks .clear) (asks .cells) (asks .slots)) in
-    let tested = d .check-depths .ensures (measurable (formed e asks) (asks .clear) (found .0) (t .if3 .taken) (s .pre .2) (s .pre .3)) in (
-      tested-at (formed e asks) (asks .clear) (found .0) (w .lowest-unknown .ensures) (landed e) (t .before .if2 .left) (t .if3 .taken)
-          (tested .0) (tested .1),
+    let r = c .refused2 .ensures in (
+      outcome-by (r .0) (r .1)
+          (unreached-at (formed e asks) (asks .clear) (found .0) (w .lowest-unknown .ensures) (landed e) (c .before .if3 .taken)),
       left (formed e asks) (asks .clear) (found .0) (found .1),
     )
 
 returns-4 : tie.Need-returns-4
 returns-4 c asks =
-    let t = c .before in
-    let w = t .before .before in
-    let f = w .before .before in
+    let w = c .before in
+    let g = w .before .before .before .before .before .before in
+    let f = g .before .before .before in
     let e = f .before .before .before in
-    let found = f .explore .ensures (explorable (formed e asks) (asks .clear) (asks .cells) (asks .slots)) in
-    let r = c .refused3 .ensures in (
-      outcome-by (r .0) (r .1)
-          (disagreeing-at (formed e asks) (asks .clear) (found .0) (w .lowest-unknown .ensures) (landed e) (t .before .if2 .left) (t .if3 .left)),
+    let s = e .before .before .before .before in
+    let found = f .explore .ensures (explorable (formed e asks) (asks .clear) (asks .cells) (asks .slots)) in (
+      outcome-fails (formed e asks) (asks .clear) (found .0) (landed e)
+          (λ a. g .check-agreed .ensures .0 a (measurable (formed e asks) (asks .clear) (found .0) a (s .pre .2) (s .pre .3)))
+          (g .check-agreed .ensures .1) (w .lowest-unknown .ensures) (c .if3 .left),
       left (formed e asks) (asks .clear) (found .0) (found .1),
     )
 
@@ -82,10 +80,11 @@ check-passes-spec =
     returns
     (λ c κs. search needs)
     (λ c κs. search needs)
-    (λ c κs. search needs)
+    (λ c. search needs)
     returns-2
     (λ c κs. search needs)
     (λ c κs. search needs)
     (λ c. search needs)
     returns-3
+    (λ c. search needs)
     returns-4)

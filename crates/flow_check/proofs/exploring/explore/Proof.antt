@@ -21,7 +21,7 @@ Inv-loop entry cells depths₀ stack₀ e₀ left₀ depths stack e left =
     × (Exploring middle 65535 (graph entry cells) depths₀ Nothing depths₀ stack₀ 1 true → ((o : ℕ) → Reached (graph entry cells) o → o < 4096) →
     Exploring middle 65535 (graph entry cells) depths₀ Nothing depths stack (e .height) (e .agree)
     × ((4096 - known depths) + e .height ≤ left)
-    × Noted stack (e .height) (e .fresh) (e .top))
+    × Noted depths stack e)
 
 abbrev μ-loop : tie.MeasureT-loop
 μ-loop entry cells depths₀ stack₀ e₀ left₀ depths stack e left = left
@@ -42,12 +42,14 @@ top-of-requires c κs =
 
 visit-requires : tie.Need-visit-requires Inv-loop μ-loop
 visit-requires c κs =
-    let t = c .before .before .before .before .before .before .before in
-    (c .before .before .before .top-of .ensures .0, omega (arith, t .before .loop .inv .0, t .loop-test .taken, c .before .before .before .before .before .if1 .left))
+    let o = c .before .before .before .before .before in
+    let t = o .before .before .before .before in
+    (o .top-of .ensures .0, omega (arith, t .before .loop .inv .0, t .loop-test .taken, o .before .before .if1 .left))
 
 loop-again : tie.Need-loop-again Inv-loop μ-loop
 loop-again c =
-    let o = c .before .before .before .before in
+    let d = c .before .before .before .before in
+    let o = d .before .before in
     let t = o .before .before .before .before in
     let l = t .before in
     let some : 1 ≤ l .loop .e .height = omega (arith, o .before .before .if1 .left) in (
@@ -56,8 +58,9 @@ loop-again c =
           let inv = l .loop .inv .1 begun inside in
           let s = inv .0 in
           let on-top = s .waiting (l .loop .e .height - 1) (omega (arith, some)) .0 in
-          let is = sym (o .top-of .ensures .1 (inv .2) (inside _ on-top)) in
-          let v = c .visit .ensures .1 (ready s inside some _ is) (s .slots) in
+          let top = o .top-of .ensures .1 (l .loop .depths) (inv .2) (inside _ on-top) in
+          let is = sym top in
+          let v = c .visit .ensures .1 (ready s inside some _ is) (s .slots) (d .depth-of .ensures (l .loop .stack) (inv .2) top) in
           let visited = v .0 (l .before .args .entry) in (
             visit-keeps s inside some _ is visited,
             omega (arith, inv .1, visit-less s inside some _ is visited),
@@ -85,6 +88,7 @@ explore-spec =
     loop-holds
     returns
     top-of-requires
+    (λ c κs. search needs)
     (λ c. search needs)
     visit-requires
     (λ c. search needs)

@@ -5,6 +5,7 @@ use mathlib.Core.Path.{_≡_}
 use native.Mathlib.Omega.{arith}
 use borrow.Author.Needs.{needs}
 use denote.Ref.{now}
+use lib.Seq.{getD-set-same}
 use Rattle.control_flow.specs.Exploring.{nowhere, fresh, same, other}
 use Rattle.control_flow.proofs.Knowing.{room}
 use Rattle.flow_check.specs.Internal.{Followable}
@@ -30,7 +31,10 @@ returns-2 c =
           let here : s .args .e .height % 4096 ≡ s .args .e .height = omega (arith, l) in
           rw here (
             fresh ((s .args .to - 1) % 4096) (omega (arith, f .high, c .before .before .if1 .left)) (c .if2 .taken),
-            λ n told. put-on-top (now (s .args .stack)) (s .args .e .height) ((s .args .to - 1) % 4096) (f .slots) (omega (arith, l)),
+            λ n told. (
+              put-on-top (now (s .args .stack)) (s .args .e .height) ((s .args .to - 1) % 4096) (f .slots) (omega (arith, l)),
+              getD-set-same (now (s .args .depths)) ((s .args .to - 1) % 4096) (s .args .depth) 0 (omega (arith, f .cells)),
+            ),
           ),
     )
 

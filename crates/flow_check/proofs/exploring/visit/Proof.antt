@@ -10,8 +10,8 @@ returns : tie.Need-returns
 returns c =
     let f = c .before .before .before in (
       omega (arith, c .follow2 .ensures .0, f .follow .ensures .0),
-      λ ready slots.
-          let after = f .before .before .before .depth-after .ensures (ready .low) (ready .high) in
+      λ ready slots is.
+          let after = f .before .before .before .depth-after .ensures (omega (arith, is, ready .low)) (omega (arith, is, ready .high)) in
           let first = f .follow .ensures .1
           (record { high = ready .fall; some = after .some; cells = ready .cells; slots = slots; room = ready .room }) in
           let fallen = effect (ready .fall) (after .some) (ready .cells) (first .0) in
@@ -25,8 +25,8 @@ returns c =
           }) in (
             λ entry.
                 record {
-                  depth = _;
-                  after = after;
+                  depth = f .before .before .before .depth-after .result;
+                  after = rw (← is) after;
                   depths′ = _;
                   stack′ = _;
                   height′ = _;
@@ -42,8 +42,6 @@ pub visit-spec : {M : Type 1} → statement M
 visit-spec =
     tie.close
     (tie.spec
-    (λ c. search needs)
-    (λ c. search needs)
     (λ c. search needs)
     (λ c. search needs)
     (λ c. search needs)

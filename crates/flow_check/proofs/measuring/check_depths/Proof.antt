@@ -42,7 +42,7 @@ returns c asks =
     let a = l .before .before .args in
     let m = l .loop .inv .4 asks in
     let step = s .check-depth .ensures (a .entry) (a .end) in
-    (fails (step-refuses _ asks m (i .if1 .taken) step (c .if2 .taken)), λ z. absurd (c .if2 .taken z))
+    record { tested = fails (step-refuses _ asks m (i .if1 .taken) step (c .if2 .taken)); measured = λ z. absurd (c .if2 .taken z) }
 
 loop-less : tie.Need-loop-less Inv-loop μ-loop
 loop-less c =
@@ -72,7 +72,7 @@ returns-2 c asks =
     let l = c .before .before in
     let m = l .loop .inv .4 asks in
     let end : l .loop .c .at ≡ l .before .before .args .end = omega (arith, l .loop .inv .0, c .if1 .left) in
-    (tested-none (l .loop .inv .3) (measuring-passes _ asks m end), λ z. measuring-ends _ asks m end)
+    record { tested = tested-none (l .loop .inv .3) (measuring-passes _ asks m end); measured = λ z. measuring-ends _ asks m end }
 
 pub check-depths-spec : {M : Type 1} → statement M
 check-depths-spec =
