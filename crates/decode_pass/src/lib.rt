@@ -22,8 +22,7 @@ pub struct Refusal {
     pub at: usize,
 }
 
-// The decode pass, to the routine's end or to the first refusal. Where it is given anything else than `Given` says, the answer and the cells are
-// left free.
+// The decode pass, to the routine's end or to the first refusal. Where `Given` or `NoStarts` does not hold, the answer and the cells are left free.
 pub fn decode_routine(
     image: &[u8],
     lengths: &[[u8; 256]; 3],
