@@ -24,13 +24,18 @@ pub record OffEnd (end next : ℕ) (flow : Flow) (off : Bool) : Type 0 where
   pub past : off ≡ true → (falls flow ≡ true) × (end ≤ next)
   pub inside : off ≡ false → falls flow ≡ true → next < end
 
+-- the cells of the ways on from an instruction of routine r that ends at `next`: by falling, by a jump and by a call
+abbrev pub waysOn : List ℕ → ℕ → ℕ → Flow → List ℕ
+waysOn image r next flow =
+    fallCell flow next ∷ jumpCell (baseOf image) (startOf image r) (endOf image r) next flow ∷ callCell image r next flow ∷ []
+
 -- the row of a start of routine r whose instruction has this effect and ends at `next`
 abbrev pub rowOf : List ℕ → Limits → ℕ → ℕ → Effect → List ℕ
 rowOf image limits r next e =
     1 ∷ fallCell (e .flow) next ∷ jumpCell (baseOf image) (startOf image r) (endOf image r) next (e .flow) ∷ popped e ∷ pushed e ∷
     storeCell limits (e .place) ∷ callCell image r next (e .flow) ∷ []
 
--- what the offsets and places in a routine are small enough for
+-- an offset of a routine, where the arrays have room for the routine's offsets and its place in the table
 pub record Small (r : Routine) (at : ℕ) : Type 0 where
   pub low : r .start ≤ at
   pub high : at < r .end

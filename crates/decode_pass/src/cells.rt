@@ -4,9 +4,9 @@ ghost use mathlib.Core.List.{List};
 ghost use Prim.Native.Nat.{ℕ, _+_, _≤_};
 ghost use Rattle.stm8.specs.Effects.{relative as relativeTo};
 ghost use Rattle.image.specs.Image.{baseOf};
-ghost use Rattle.acceptance.specs.Cells.{fallCell, targetCell, jumpCell, storeCell, callee as calleeOf, calleeCell, callCell};
+ghost use Rattle.acceptance.specs.Cells.{targetCell, storeCell, callee as calleeOf, calleeCell};
 ghost use Rattle.decode_pass.specs.Pass.{Begins, RoutineOf};
-ghost use Rattle.decode_pass.specs.Internal.{rowOf};
+ghost use Rattle.decode_pass.specs.Internal.{waysOn, rowOf};
 use crate::Routine;
 use code::popped;
 use code::pushed;
@@ -102,65 +102,29 @@ fn callee_cell(begins: &[u16; 32], base: u16, r: usize, address: usize) -> u16
     if k < r { (k + 1) as u16 } else { 255 }
 }
 
-// Where control goes on from an instruction, as cells: by falling, by a jump, and by a call.
-struct Ways {
-    fall: u16,
-    jump: u16,
-    call: u16,
-}
-
-// The ways on from an instruction of a routine that ends at `next`: 0 for each that it has not.
-fn ways_on(r: Routine, begins: &[u16; 32], next: usize, flow: Flow) -> Ways
+// The ways on from an instruction of a routine that ends at `next`, as cells: by falling, by a jump and by a call, 0 for each that it has not.
+fn ways_on(r: Routine, begins: &[u16; 32], next: usize, flow: Flow) -> [u16; 3]
     requires { ⌜ (next ≤ 4096) × (r .start ≤ 4096) × (r .end ≤ 4096) × (r .index ≤ 32) ⌝ }
-    ensures { λ w. ⌜ w .fall ≡ fallCell flow next ⌝ }
-    ensures { λ w. ⌜ w .jump ≡ jumpCell (r .base) (r .start) (r .end) next flow ⌝ }
-    ensures { λ w. ⌜ ((image : List ℕ) → r .base ≡ baseOf image → Begins image (now (begins .entry)) (r .index) →
-        w .call ≡ callCell image (r .index) next flow) ⌝ }
+    ensures { λ w. ⌜ ((image : List ℕ) → RoutineOf image r → Begins image (now (begins .entry)) (r .index) →
+        w ≡ waysOn image (r .index) next flow) ⌝ }
 {
     let fall = (next + 1) as u16;
     match flow {
-        Flow::Next => Ways {
-            fall,
-            jump: 0,
-            call: 0,
-        },
+        Flow::Next => [fall, 0, 0],
         Flow::Branch(n) => {
             let jump = target_cell(r.base, r.start, r.end, target(r.base, next, n));
-            Ways {
-                fall,
-                jump,
-                call: 0,
-            }
+            [fall, jump, 0]
         }
         Flow::Jump(n) => {
             let jump = target_cell(r.base, r.start, r.end, target(r.base, next, n));
-            Ways {
-                fall: 0,
-                jump,
-                call: 0,
-            }
+            [0, jump, 0]
         }
-        Flow::Call(a) => {
-            let call = callee_cell(begins, r.base, r.index, a as usize);
-            Ways {
-                fall,
-                jump: 0,
-                call,
-            }
-        }
+        Flow::Call(a) => [fall, 0, callee_cell(begins, r.base, r.index, a as usize)],
         Flow::CallRelative(n) => {
             let call = callee_cell(begins, r.base, r.index, target(r.base, next, n));
-            Ways {
-                fall,
-                jump: 0,
-                call,
-            }
+            [fall, 0, call]
         }
-        Flow::Return => Ways {
-            fall: 0,
-            jump: 0,
-            call: 0,
-        },
+        Flow::Return => [0, 0, 0],
     }
 }
 
@@ -177,5 +141,5 @@ pub(crate) fn row_of(r: Routine, begins: &[u16; 32], next: usize, e: Effect) -> 
     let pops = popped(e) as u16;
     let pushes = pushed(e) as u16;
     let store = store_cell(limits, place);
-    [1, ways.fall, ways.jump, pops, pushes, store, ways.call]
+    [1, ways[0], ways[1], pops, pushes, store, ways[2]]
 }
