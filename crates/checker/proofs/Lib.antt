@@ -1,4 +1,2 @@
-pub mod Callees
-pub mod DecodePass
 pub mod Routines
 pub mod Verdicts

@@ -22,17 +22,18 @@ use Rattle.rules.specs.Rules.{countBelow}
 use Rattle.rules.proofs.RefusalNumbers.{routine-refusal-at}
 use Rattle.control_flow.specs.Graph.{column}
 use Rattle.control_flow.specs.Routine as cells
-use Rattle.control_flow.specs.Exploring.{Checkable, Left}
+use Rattle.control_flow.specs.Outcome.{Checkable, Left}
 use Rattle.acceptance.specs.Cells.{Filled}
 use Rattle.acceptance.specs.Passed.{marked, RoutineChecked, RoutinesPassed}
 use Rattle.acceptance.proofs.Graphs.{decoded}
 use Rattle.acceptance.proofs.OneRoutine.{code-refused, checked-refused, checked-passed}
 use Rattle.acceptance.proofs.AllRoutines.{zeros-at, none-yet, one-more}
 use Rattle.acceptance.proofs.NeedBounds.{need-bound, no-needs, needs-bound}
-use Rattle.checker.specs.Internal.{Begins, RoutineOf, NoStarts, cellsOf, RoutineDecoded, refused, filled, Clean, NeedsBelow, Swept, ended, stopped, Small}
-use Rattle.checker.specs.declared.decoding.Routine.{Routine}
+use Rattle.decode_pass.specs.Pass.{Begins, RoutineOf, NoStarts, cellsOf, RoutineDecoded, refused, filled}
+use Rattle.decode_pass.specs.declared.Routine.{Routine}
+use Rattle.decode_pass.proofs.DecodePass.{fault-some, start-below}
+use Rattle.checker.specs.Internal.{Clean, NeedsBelow, Swept, ended, stopped, Small}
 use Rattle.checker.specs.declared.sweep.Sweep.{Sweep}
-use Rattle.checker.proofs.DecodePass.{fault-some, start-below}
 
 -- where one routine more begins
 pub begins-more : (image begins : List ℕ) (k at : ℕ) → k < length begins → at ≡ startOf image k → Begins image begins k →

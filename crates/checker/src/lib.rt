@@ -1,13 +1,6 @@
 // The check of an image under limits: refusals 1 to 16, the marks, the need and the count.
-mod cells;
-mod decoding;
-mod exploring;
-mod flow;
-mod jumps;
 mod marks;
-mod measuring;
 mod sweep;
-mod uses;
 
 pub use rules::Verdict;
 ghost use mathlib.Core.Path.{_≡_};
@@ -18,7 +11,8 @@ ghost use Rattle.image.specs.Validation.{validated};
 ghost use Rattle.image.specs.declared.Validated.the-variants.{Valid};
 ghost use Rattle.rules.specs.Outcome.{Outcome, VerdictNumbered};
 ghost use Rattle.acceptance.specs.Check.{checked};
-ghost use Rattle.checker.specs.Internal.{Begins, Small, VerdictOf, codeMarks, CodeOutcome};
+ghost use Rattle.decode_pass.specs.Pass.{Begins};
+ghost use Rattle.checker.specs.Internal.{Small, VerdictOf, codeMarks, CodeOutcome};
 use crate::marks::clear;
 use crate::sweep::Sweep;
 use crate::sweep::sweep_routines;

@@ -3,14 +3,6 @@ ghost use mathlib.Core.Path.{_≡_};
 ghost use Prim.Native.Nat.{_≤_};
 ghost use lib.ListN.{length, replicate};
 
-// A 16-bit cell as a number to index and to reckon with. It is a function so that its contract tells callers the bound.
-pub(crate) fn wide(x: u16) -> usize
-    ensures { λ r. ⌜ r ≡ x ⌝ }
-    ensures { λ r. ⌜ r ≤ 65535 ⌝ }
-{
-    x as usize
-}
-
 // Every mark is 0.
 pub(crate) fn clear(marks: &mut [u16])
     ensures { λ _. ⌜ now (marks .exit) ≡ replicate (length (now (marks .entry))) 0 ⌝ }

@@ -7,11 +7,12 @@ ghost use Rattle.image.specs.Validation.{validated};
 ghost use Rattle.image.specs.declared.Validated.the-variants.{Valid};
 ghost use Rattle.code.specs.Set.{lengthsFor};
 ghost use Rattle.acceptance.specs.Passed.{RoutineChecked, RoutinesPassed};
-ghost use Rattle.checker.specs.Internal.{Begins, RoutineOf, Clean, Swept, Small};
-use crate::decoding::Routine;
-use crate::decoding::decode_routine;
-use crate::flow::check_flow;
-use crate::measuring::Checked;
+ghost use Rattle.decode_pass.specs.Pass.{Begins, RoutineOf, Given};
+ghost use Rattle.checker.specs.Internal.{Clean, Swept, Small};
+use decode_pass::Routine;
+use decode_pass::decode_routine;
+use flow_check::Checked;
+use flow_check::check_flow;
 use image::Layout;
 use image::Limits;
 use image::routine_length;
@@ -54,8 +55,7 @@ fn check_routine(
     stack: &mut [u16; 4096],
     marks: &mut [u16],
 ) -> Checked
-    requires { ⌜ RoutineOf (now image) r × (now lengths ≡ lengthsFor (versionOf (now image))) × Begins (now image) (now begins) (r .index)
-        × Clean (r .start) (now cells) (now depths) (now stack)
+    requires { ⌜ Given (now image) (now lengths) (now begins) r × Clean (r .start) (now cells) (now depths) (now stack)
         × RoutinesPassed (now image) (r .limits) (r .index) (s .needs) (now marks) (s .count) ⌝ }
     ensures { λ x. ⌜ RoutineChecked (now (image .entry)) (r .limits) (s .needs) (r .index)
         (now (marks .entry)) (x .refusal) (x .at) (now (marks .exit)) (x .need) (x .count) ⌝ }

@@ -8,8 +8,8 @@ use native.Mathlib.Omega.{arith}
 use lib.ListN.{length, getD}
 use Rattle.control_flow.specs.Graph.{Reached, start, cells}
 use Rattle.control_flow.specs.Routine.{Routine, Start, WellFormed, jumpCheck, depthCheck}
-use Rattle.control_flow.specs.Outcome.{First, Passes, AllReached, Measured, FlowOutcome, unreached, disagreeing, misused, passing}
-use Rattle.control_flow.specs.Exploring.{Known, Explorable, Explored, LowestUnknown, Tested, fails, passes, Left}
+use Rattle.control_flow.specs.Outcome.{First, Passes, AllReached, Measured, FlowOutcome, unreached, disagreeing, misused, passing, Left}
+use Rattle.control_flow.specs.Exploring.{Known, Explorable, Explored, LowestUnknown, Tested, fails, passes}
 use Rattle.control_flow.specs.Measuring.{Measurable}
 use Rattle.control_flow.proofs.Paths.{reached-start}
 

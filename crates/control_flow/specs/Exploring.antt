@@ -6,7 +6,7 @@ use mathlib.Core.Bool.{Bool, true, false}
 use mathlib.Core.List.{List, [], _∷_}
 use lib.ListN.{length, getD, set}
 use Rattle.control_flow.specs.Graph.{Graph, Reached, Path, Disagree}
-use Rattle.control_flow.specs.Routine.{Routine, Start, Decoded}
+use Rattle.control_flow.specs.Routine.{Routine, Start}
 use Rattle.control_flow.specs.Outcome.{First, Passes}
 
 -- A depth is held as depth + 2^29 in 32 bits. A path that passes no offset twice has a depth of less than 4,096 · 65,535 < 2^28 either way, so what is
@@ -87,16 +87,3 @@ pub record LowestUnknown (x : Routine) (depths : List ℕ) (o : ℕ) : Type 0 wh
 pub data Tested (x : Routine) (check : ℕ → ℕ) : ℕ → ℕ → Type 0 where
   fails : {number at : ℕ} → First x check number at → Tested x check number at
   passes : {at : ℕ} → Passes x check → Tested x check 0 at
-
--- What the check of a routine asks: it is decoded, and none of its depths is known yet.
-pub record Checkable (x : Routine) (depths stack : List ℕ) : Type 0 where
-  pub decoded : Decoded x
-  pub cells : length depths ≡ 4096
-  pub slots : length stack ≡ 4096
-  pub clear : (o : ℕ) → Start x o → getD depths o 0 ≡ 0
-
--- What it leaves in the arrays that the next routine is checked with: no depth but those of the routine's starts changes.
-pub record Left (x : Routine) (before depths stack : List ℕ) : Type 0 where
-  pub cells : length depths ≡ 4096
-  pub slots : length stack ≡ 4096
-  pub others : (o : ℕ) → Start x o ⊎ (getD depths o 0 ≡ getD before o 0)

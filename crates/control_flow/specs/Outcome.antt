@@ -1,11 +1,11 @@
--- What the check of a routine by its cells finds, from 13 and 10 on: the first fault, or the need and the marks.
+-- What the check of a routine by its cells finds, from 13 and 10 on: the first fault, or the need and the marks; and what it asks and leaves.
 use Prim.Native.Nat.{ℕ, _+_, _-_, _≤_, _<_}
 use mathlib.Core.Path.{_≡_}
 use mathlib.Core.Logic.{_⊎_}
 use mathlib.Core.List.{List}
 use lib.ListN.{length, getD}
 use Rattle.control_flow.specs.Graph.{Reached, Path, Disagree}
-use Rattle.control_flow.specs.Routine.{Routine, Start, jumpCheck, depthCheck, Uses, countFrom}
+use Rattle.control_flow.specs.Routine.{Routine, Start, Decoded, jumpCheck, depthCheck, Uses, countFrom}
 
 -- a check fails first at a start, with its number
 pub record First (x : Routine) (check : ℕ → ℕ) (number at : ℕ) : Type 0 where
@@ -47,3 +47,16 @@ pub data FlowOutcome (x : Routine) (needs given : List ℕ) (counted : ℕ) : �
   passing : {at need count : ℕ} {marks : List ℕ} → Passes x (jumpCheck x) → AllReached x → (bias : ℕ) (held : ℕ → ℕ) → Held x bias held →
       Passes x (depthCheck x bias held) → Measured x needs bias held given marks counted need count →
       FlowOutcome x needs given counted 0 at marks need count
+
+-- What the check of a routine asks: it is decoded, and none of its depths is known yet.
+pub record Checkable (x : Routine) (depths stack : List ℕ) : Type 0 where
+  pub decoded : Decoded x
+  pub cells : length depths ≡ 4096
+  pub slots : length stack ≡ 4096
+  pub clear : (o : ℕ) → Start x o → getD depths o 0 ≡ 0
+
+-- What it leaves in the arrays that the next routine is checked with: no depth but those of the routine's starts changes.
+pub record Left (x : Routine) (before depths stack : List ℕ) : Type 0 where
+  pub cells : length depths ≡ 4096
+  pub slots : length stack ≡ 4096
+  pub others : (o : ℕ) → Start x o ⊎ (getD depths o 0 ≡ getD before o 0)

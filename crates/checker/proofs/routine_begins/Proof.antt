@@ -4,7 +4,7 @@ use mathlib.Core.Path.{_≡_, sym, _∙_}
 use lib.ListN.{length, length-replicate, length-set}
 use Rattle.image.specs.Image.{startOf, endOf}
 use Rattle.image.proofs.Measuring.{start-zero, start-next, start-inside}
-use Rattle.checker.specs.Internal.{Begins}
+use Rattle.decode_pass.specs.Pass.{Begins}
 use Rattle.checker.proofs.Routines.{begins-more}
 use native.Mathlib.Omega.{arith}
 use denote.Ref.{now}

@@ -5,29 +5,24 @@ use borrow.Author.Needs.{needs}
 use Rattle.checker.proofs.sweep.check_routine.Statement.{statement}
 use Rattle.checker.proofs.sweep.check_routine.Tie as tie
 
-decode-routine-requires : tie.Need-decode-routine-requires
-decode-routine-requires c κs = let p = c .before .before .before .pre in (p .0, p .1, p .2, p .3 .no-starts)
-
 returns : tie.Need-returns
-returns c = (decode-refused (c .before .before .decode-routine .ensures) (c .if1 .taken), λ none. absurd (c .if1 .taken none))
-
-check-flow-requires : tie.Need-check-flow-requires
-check-flow-requires c κs =
-    let d = c .before .before .before .before .before .before .before .before in
+returns c =
+    let d = c .before .before in
     let p = d .before .before .before .before .pre in
-    let f = decode-filled (d .decode-routine .ensures) (c .before .before .before .before .before .before .if1 .left) in
-    (checkable (p .0) (p .3) (f .0), enough-marks (p .0) (p .4), few-starts (p .0) (p .4))
+    (decode-refused (d .decode-routine .ensures (p .0) (p .1 .no-starts)) (c .if1 .taken), λ none. absurd (c .if1 .taken none))
 
 returns-2 : tie.Need-returns-2
 returns-2 c =
     let g = c .before .before in
     let d = g .before .before .before .before .before .before .before .before .before in
     let p = d .before .before .before .before .pre in
-    let f = decode-filled (d .decode-routine .ensures) (g .before .before .before .before .before .before .before .if1 .left) in (
-      filled-checked (p .0 .layout) (p .0 .inside) (f .0) (p .4 .clear) (p .4 .counted) (g .check-flow .ensures .0),
-      λ none. clean-after (p .0) (p .3) (f .0) (f .1) (g .check-flow .ensures .1 .0),
+    let routine = p .0 .routine in
+    let f = decode-filled (d .decode-routine .ensures (p .0) (p .1 .no-starts)) (g .before .before .before .before .before .before .before .if1 .left) in
+    let o = g .check-flow .ensures (checkable routine (p .1) (f .0)) (enough-marks routine (p .2)) (few-starts routine (p .2)) in (
+      filled-checked (routine .layout) (routine .inside) (f .0) (p .2 .clear) (p .2 .counted) (o .0),
+      λ none. clean-after routine (p .1) (f .0) (f .1) (o .1),
     )
 
 pub check-routine-spec : {M : Type 1} → statement M
 check-routine-spec =
-    tie.close (tie.spec decode-routine-requires returns check-flow-requires (λ c. search needs) returns-2)
+    tie.close (tie.spec (λ c κs. search needs) returns (λ c κs. search needs) (λ c. search needs) returns-2)

@@ -29,9 +29,7 @@ check-routine-requires c κs =
     let p = l .before .before .before .before .pre in
     let is = r .routine-at .ensures .1 in
     let routine = r .routine-at .ensures .0 in (
-      routine,
-      p .1,
-      λ k below. p .2 k (omega (arith, is .0, r .before .if1 .taken)),
+      record { routine = routine; own = p .1; earlier = λ k below. p .2 k (omega (arith, is .0, r .before .if1 .taken)) },
       rw (is .1) (l .loop .inv .1),
       routine-ready (p .0) (l .loop .inv .0) routine is,
     )

@@ -1,0 +1,3 @@
+pub mod Callees
+pub mod Lengths
+pub mod DecodePass

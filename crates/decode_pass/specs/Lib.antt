@@ -1,0 +1,2 @@
+pub mod Pass
+pub mod Internal
