@@ -1,42 +1,61 @@
 //! Speed, side by side in one run: the library, the twin, and the simulator uCsim (`sstm8`) where it is installed.
 //!
-//! Each figure is the best of many rounds of about a millisecond, in which library and twin take turns, so that other work on the
-//! machine weighs on neither.
+//! They take turns in every round, so that other work on the machine weighs on all alike. Each figure is the median of its rounds,
+//! and each ratio the median of the rounds' own ratios, from which drops out what slows a whole round.
+//!
+//! All times are elapsed time: the standard library has no clock for processor time, and the system's account of it for another
+//! process ticks in 10 ms.
 
 use gate_host::{slu, twin, Ending, Limits, Refusal, Registers, Run, MARKS_ENOUGH, MEMORY_BYTES};
 use std::fs;
 use std::hint::black_box;
 use std::io::Write;
+use std::path::Path;
 use std::process::{Command, Stdio};
-use std::time::{Duration, Instant};
+use std::time::Instant;
 
-const ROUNDS: usize = 200;
+// One more than a multiple of four, so that the median and the ends of the middle half are rounds themselves.
+const SHORT_ROUNDS: usize = 201;
+const LONG_ROUNDS: usize = 9;
 const LIMITS: Limits = Limits { grant_low: 0x0000, grant_high: 0x00FF, stack_low: 0x1600, stack_high: 0x17FF };
 const BASE: u16 = 0x8000;
 
-/// A line of the table: `None` where there is nothing to measure.
-struct Line {
-    name: &'static str,
-    unit: &'static str,
+/// What each took for one and the same thing, in nanoseconds: `None` where there is nothing to measure.
+struct Round {
     library: Option<f64>,
     twin: Option<f64>,
     simulator: Option<f64>,
-    /// Whether more is better.
-    rate: bool,
 }
+
+/// The rounds of one task, with a line of the table for each unit.
+struct Task {
+    name: &'static str,
+    units: &'static [Unit],
+    rounds: Vec<Round>,
+}
+
+/// What a time in nanoseconds is shown as.
+struct Unit {
+    name: &'static str,
+    value: fn(f64) -> f64,
+}
+
+const NANOSECONDS: Unit = Unit { name: "ns", value: |time| time };
+const MICROSECONDS: Unit = Unit { name: "us", value: |time| time / 1e3 };
+const MILLIONS: Unit = Unit { name: "million/s", value: |time| 1e3 / time };
+const MILLION_STEPS: Unit = Unit { name: "million steps/s", value: |time| 1e3 / time };
 
 fn main() {
     if let Some(model) = processor() {
         println!("{model}");
     }
-    let [decode_time, decode_rate] = decodes();
-    let mut lines = vec![decode_time, decode_rate, decodes_alone()];
-    lines.extend(checks());
-    lines.push(single_steps());
-    lines.push(runs("run, counting loop", Workload::counter));
-    lines.push(runs("run, mixed loop", Workload::mixed));
-    let installed = lines.iter().any(|line| line.simulator.is_some());
-    print_table(&lines, installed);
+    let mut tasks = vec![decodes(), decodes_alone()];
+    tasks.extend(checks());
+    tasks.push(single_steps());
+    tasks.push(runs("run, counting loop", Workload::counter));
+    tasks.push(runs("run, mixed loop", Workload::mixed));
+    print_figures(&tasks);
+    print_ratios(&tasks);
 }
 
 fn processor() -> Option<String> {
@@ -45,46 +64,62 @@ fn processor() -> Option<String> {
     Some(line.split_once(':')?.1.trim().to_string())
 }
 
-fn print_table(lines: &[Line], installed: bool) {
-    let cell = |value: Option<f64>| value.map_or("-".to_string(), |value| format!("{value:.2}"));
-    let simulator = |value: Option<f64>| if installed { cell(value) } else { "not installed".to_string() };
-    println!("{:<28} {:>16} {:>10} {:>10} {:>14}", "", "", "library", "twin", "uCsim");
-    for line in lines {
-        let (library, twin) = (cell(line.library), cell(line.twin));
-        println!("{:<28} {:>16} {library:>10} {twin:>10} {:>14}", line.name, line.unit, simulator(line.simulator));
-    }
-    println!("The library has no decode without the text; the twin's shows how much of its time the text takes.");
-    println!("Speed of the library, as a multiple of the other's:");
-    // A time and the rate that it gives have the same ratio.
-    for line in lines.iter().filter(|line| line.unit != "million/s") {
-        let speed = |other: Option<f64>| {
-            let (library, other) = (line.library?, other?);
-            Some(if line.rate { library / other } else { other / library })
-        };
-        if line.library.is_some() {
-            let (twin, simulator) = (cell(speed(line.twin)), simulator(speed(line.simulator)));
-            println!("{:<28} {:>16} {:>10} {twin:>10} {simulator:>14}", line.name, "", "");
+fn print_figures(tasks: &[Task]) {
+    let installed = tasks.iter().flat_map(|task| &task.rounds).any(|round| round.simulator.is_some());
+    println!("The median of the rounds, and the ends of their middle half:");
+    print_line("", "", "library", "twin", if installed { "uCsim" } else { "uCsim (not installed)" });
+    for task in tasks {
+        for unit in task.units {
+            let cell = |time: fn(&Round) -> Option<f64>| cell(task.rounds.iter().filter_map(time).map(unit.value));
+            let (library, twin) = (cell(|round| round.library), cell(|round| round.twin));
+            print_line(task.name, unit.name, &library, &twin, &cell(|round| round.simulator));
         }
     }
+    println!("The library has no decode without the text; the twin's shows how much of its time the text takes.");
 }
 
-/// The shortest times of two pieces of work that take turns.
-fn best_of(mut library: impl FnMut(), mut twin: impl FnMut()) -> (Duration, Duration) {
-    let time = |work: &mut dyn FnMut()| {
-        let begun = Instant::now();
-        work();
-        begun.elapsed()
-    };
-    let mut best = (Duration::MAX, Duration::MAX);
-    for _ in 0..ROUNDS {
-        best.0 = best.0.min(time(&mut library));
-        best.1 = best.1.min(time(&mut twin));
+fn print_ratios(tasks: &[Task]) {
+    println!("Speed of the library, as a multiple of the other's:");
+    for task in tasks.iter().filter(|task| task.rounds.iter().any(|round| round.library.is_some())) {
+        let cell = |ratio: fn(&Round) -> Option<f64>| cell(task.rounds.iter().filter_map(ratio));
+        let twin = cell(|round| Some(round.twin? / round.library?));
+        let simulator = cell(|round| Some(round.simulator? / round.library?));
+        print_line(task.name, "", "", &twin, &simulator);
     }
-    best
 }
 
-fn nanoseconds(time: Duration, times: usize) -> Option<f64> {
-    Some(time.as_secs_f64() * 1e9 / times as f64)
+fn print_line(name: &str, unit: &str, library: &str, twin: &str, simulator: &str) {
+    println!("{name:<28} {unit:>15}  {library:<18}  {twin:<18}  {simulator}");
+}
+
+/// The median of the values and the ends of their middle half.
+fn cell(values: impl Iterator<Item = f64>) -> String {
+    let mut values: Vec<f64> = values.collect();
+    values.sort_by(f64::total_cmp);
+    let Some(last) = values.len().checked_sub(1) else {
+        return format!("{:>5}", "-");
+    };
+    let [low, median, high] = [last / 4, last / 2, last - last / 4].map(|rank| four_digits(values[rank]));
+    format!("{median:>5} {low}..{high}")
+}
+
+fn four_digits(value: f64) -> String {
+    let decimals = if value < 100.0 { 2 } else { 1 };
+    format!("{value:.decimals$}")
+}
+
+/// Rounds of about a millisecond each, in which library and twin take turns at `count` things.
+fn short_rounds(count: usize, mut library: impl FnMut(), mut twin: impl FnMut()) -> Vec<Round> {
+    let time = |work: &mut dyn FnMut()| Some(time_of_one(count, work));
+    let round = |_| Round { library: time(&mut library), twin: time(&mut twin), simulator: None };
+    (0..SHORT_ROUNDS).map(round).collect()
+}
+
+/// The nanoseconds that one of `count` things takes.
+fn time_of_one(count: usize, work: impl FnOnce()) -> f64 {
+    let begun = Instant::now();
+    work();
+    begun.elapsed().as_secs_f64() * 1e9 / count as f64
 }
 
 // Decoding, over the instructions of the 4,096-byte image.
@@ -107,8 +142,8 @@ fn code_and_count() -> (Vec<u8>, usize) {
     (image[image.len() - 4_096..].to_vec(), SWEEPS * usize::from(accepted.count))
 }
 
-fn decodes() -> [Line; 2] {
-    let (code, times) = code_and_count();
+fn decodes() -> Task {
+    let (code, count) = code_and_count();
     let library = |bytes: &[u8], address: u16| {
         let decoded = black_box(gate_host::decode(bytes, address));
         decoded.expect("an instruction").length
@@ -118,30 +153,22 @@ fn decodes() -> [Line; 2] {
         black_box(twin::text(instruction, length, address));
         length
     };
-    let (library, twin) = best_of(|| sweep(&code, library), || sweep(&code, other));
-    let line = |unit, rate, value: fn(Option<f64>) -> Option<f64>| Line {
-        name: "decode with its text",
-        unit,
-        library: value(nanoseconds(library, times)),
-        twin: value(nanoseconds(twin, times)),
-        simulator: None,
-        rate,
-    };
-    [line("ns", false, |nano| nano), line("million/s", true, |nano| Some(1e3 / nano?))]
+    let rounds = short_rounds(count, || sweep(&code, library), || sweep(&code, other));
+    Task { name: "decode with its text", units: &[NANOSECONDS, MILLIONS], rounds }
 }
 
-fn decodes_alone() -> Line {
-    let (code, times) = code_and_count();
+fn decodes_alone() -> Task {
+    let (code, count) = code_and_count();
     let alone = |bytes: &[u8], _: u16| black_box(twin::decode(bytes)).expect("an instruction").1;
-    let (_, twin) = best_of(|| (), || sweep(&code, alone));
-    Line { name: "decode alone", unit: "ns", library: None, twin: nanoseconds(twin, times), simulator: None, rate: false }
+    let round = |_| Round { library: None, twin: Some(time_of_one(count, || sweep(&code, alone))), simulator: None };
+    Task { name: "decode alone", units: &[NANOSECONDS], rounds: (0..SHORT_ROUNDS).map(round).collect() }
 }
 
 // Checking.
 
 /// A mixed image; one in which a check that goes over the code until nothing new is reached goes over it 1,000 times; and straight
 /// code, to see that twice the bytes take twice the time.
-fn checks() -> [Line; 6] {
+fn checks() -> [Task; 6] {
     [
         check_of("check of 4,096 bytes", full_image()),
         check_of("check, 1,000 jumps back", backward_image()),
@@ -152,19 +179,19 @@ fn checks() -> [Line; 6] {
     ]
 }
 
-fn check_of(name: &'static str, image: Vec<u8>) -> Line {
+fn check_of(name: &'static str, image: Vec<u8>) -> Task {
     let (mut marks, mut twin_marks) = ([0; MARKS_ENOUGH], [0; MARKS_ENOUGH]);
     let verdict = gate_host::check(&image, &LIMITS, &mut marks);
     assert_eq!(verdict, twin::check(&image, &LIMITS, &mut twin_marks));
     assert!(verdict.is_ok() && marks == twin_marks);
     // As many bytes are checked in every round.
-    let times = 5 * 4_096 / twin::Image::parse(&image).expect("an image").code.len();
-    let (library, twin) = best_of(
-        || (0..times).for_each(|_| _ = black_box(gate_host::check(black_box(&image), &LIMITS, &mut marks))),
-        || (0..times).for_each(|_| _ = black_box(twin::check(black_box(&image), &LIMITS, &mut twin_marks))),
+    let count = 5 * 4_096 / twin::Image::parse(&image).expect("an image").code.len();
+    let rounds = short_rounds(
+        count,
+        || (0..count).for_each(|_| _ = black_box(gate_host::check(black_box(&image), &LIMITS, &mut marks))),
+        || (0..count).for_each(|_| _ = black_box(twin::check(black_box(&image), &LIMITS, &mut twin_marks))),
     );
-    let micro = |time| nanoseconds(time, times).map(|nano| nano / 1e3);
-    Line { name, unit: "us", library: micro(library), twin: micro(twin), simulator: None, rate: false }
+    Task { name, units: &[MICROSECONDS], rounds }
 }
 
 /// An accepted image of 4,096 code bytes: 32 routines of 128, each but the first with a call to the one before.
@@ -277,34 +304,36 @@ fn started(file: &[u8]) -> (Vec<u8>, Registers) {
     (memory, registers)
 }
 
-fn single_steps() -> Line {
-    const TIMES: usize = 4_000;
+fn single_steps() -> Task {
+    const COUNT: usize = 4_000;
     let file = Workload::mixed(1).image();
     let (memory, registers) = started(&file);
     let (mut one, mut other) = (memory.clone(), memory);
-    let (library, twin) = best_of(
+    let rounds = short_rounds(
+        COUNT,
         || {
             let mut registers = registers;
-            for _ in 0..TIMES {
+            for _ in 0..COUNT {
                 _ = black_box(gate_host::step(&file, &LIMITS, &mut one, &mut registers));
             }
         },
         || {
             let mut registers = registers;
-            for _ in 0..TIMES {
+            for _ in 0..COUNT {
                 _ = black_box(twin::step(&file, &LIMITS, &mut other, &mut registers));
             }
         },
     );
-    let (library, twin) = (nanoseconds(library, TIMES), nanoseconds(twin, TIMES));
-    Line { name: "a single step", unit: "ns", library, twin, simulator: None, rate: false }
+    Task { name: "a single step", units: &[NANOSECONDS], rounds }
 }
 
 type Runner = fn(&[u8], &Limits, &mut [u8], &mut Registers, u32) -> Result<Run, Refusal>;
 
-/// A long run in slices, each of which is a round; the simulator, which is slower, makes a few turns of the same loop.
-fn runs(name: &'static str, workload: fn(u16) -> Workload) -> Line {
-    const SLICE: u32 = 20_000;
+/// A long run in slices, at which library and twin take turns. Then the simulator goes through the same loop for about as long, so
+/// that each meets its share of the other work.
+fn runs(name: &'static str, workload: fn(u16) -> Workload) -> Task {
+    const SLICE: u32 = 100_000;
+    const SLICES: usize = 200;
     let file = workload(u16::MAX).image();
     let mut one = started(&file);
     let mut other = one.clone();
@@ -312,56 +341,60 @@ fn runs(name: &'static str, workload: fn(u16) -> Workload) -> Line {
         let run = runner(&file, &LIMITS, memory, registers, SLICE);
         assert_eq!(run, Ok(Run { ending: Ending::Spent, steps: SLICE }));
     };
-    let (library, twin) = best_of(|| slice(gate_host::run, &mut one), || slice(twin::run, &mut other));
-    assert!(one == other, "library and twin come out alike");
-    let rate = |time: Duration| Some(f64::from(SLICE) / time.as_secs_f64() / 1e6);
-    let simulator = simulate(workload).map(|rate| rate / 1e6);
-    Line { name, unit: "million steps/s", library: rate(library), twin: rate(twin), simulator, rate: true }
-}
-
-// The simulator. It runs main from its first byte to its RET and counts the instructions itself. Its processor time is the shell's
-// account of it; a short run is taken off a long one, so that loading counts for nothing.
-
-/// Instructions a second of processor time.
-fn simulate(workload: fn(u16) -> Workload) -> Option<f64> {
-    let rate = || {
-        let (few, short) = simulated(&workload(1))?;
-        let (many, long) = simulated(&workload(60))?;
-        Some((many - few) / (long - short))
+    let round = |_| {
+        let (mut library, mut twin) = (0.0, 0.0);
+        for _ in 0..SLICES {
+            library += time_of_one(SLICE as usize, || slice(gate_host::run, &mut one));
+            twin += time_of_one(SLICE as usize, || slice(twin::run, &mut other));
+        }
+        let mean = |sum: f64| Some(sum / SLICES as f64);
+        Round { library: mean(library), twin: mean(twin), simulator: simulate(workload) }
     };
-    (0..3).filter_map(|_| rate()).filter(|rate| rate.is_finite()).reduce(f64::max)
+    let rounds = (0..LONG_ROUNDS).map(round).collect();
+    assert!(one == other, "library and twin come out alike");
+    Task { name, units: &[MILLION_STEPS], rounds }
 }
 
-/// The instructions of one run, and its processor time in seconds.
+// The simulator. It runs main from its first byte to its RET and counts the instructions itself. A short run is taken off a long
+// one, so that loading counts for nothing.
+
+/// The nanoseconds that an instruction takes.
+fn simulate(workload: fn(u16) -> Workload) -> Option<f64> {
+    /// Half a second or more at 4 million instructions a second; the rounds together take over two seconds at up to 9 million.
+    const TURNS: u16 = 250;
+    let (few, short) = simulated(&workload(1))?;
+    let (many, long) = simulated(&workload(TURNS))?;
+    Some((long - short) * 1e9 / (many - few))
+}
+
+/// The instructions of one run, and its time in seconds.
 fn simulated(workload: &Workload) -> Option<(f64, f64)> {
     let code = workload.routines.concat();
     let main = usize::from(BASE) + code.len() - workload.routines.last()?.len();
     let ret = usize::from(BASE) + code.len() - 1;
+    let commands = format!("pc {main:#x}\nbreak {ret:#x}\nrun\nstate\nkill\n");
     let file = std::env::temp_dir().join(format!("gate-bench-{}.ihx", std::process::id()));
     fs::write(&file, intel_hex(&code)).ok()?;
-    let mut shell = Command::new("sh")
-        .args(["-c", "sstm8 -t S208 -b \"$0\"; times"])
-        .arg(&file)
+    let begun = Instant::now();
+    let text = output_of_simulator(&file, &commands);
+    let time = begun.elapsed().as_secs_f64();
+    fs::remove_file(&file).ok()?;
+    let instructions = text?.split_once("Inst=")?.1.split_whitespace().next()?.parse().ok()?;
+    Some((instructions, time))
+}
+
+fn output_of_simulator(file: &Path, commands: &str) -> Option<String> {
+    let mut simulator = Command::new("sstm8")
+        .args(["-t", "S208", "-b"])
+        .arg(file)
         .stdin(Stdio::piped())
         .stdout(Stdio::piped())
         .stderr(Stdio::null())
         .spawn()
         .ok()?;
-    let commands = format!("pc {main:#x}\nbreak {ret:#x}\nrun\nstate\nkill\n");
-    // Where there is no simulator, nobody reads the commands.
-    let _ = shell.stdin.take()?.write_all(commands.as_bytes());
-    let output = shell.wait_with_output().ok()?;
-    fs::remove_file(&file).ok()?;
-    let text = String::from_utf8_lossy(&output.stdout).into_owned();
-    let instructions = text.split_once("Inst=")?.1.split_whitespace().next()?.parse().ok()?;
-    let times = text.lines().last()?.split_whitespace().map(seconds);
-    Some((instructions, times.sum::<Option<f64>>()?))
-}
-
-/// The seconds of a time such as 0m0.130000s.
-fn seconds(time: &str) -> Option<f64> {
-    let (minutes, rest) = time.split_once('m')?;
-    Some(60.0 * minutes.parse::<f64>().ok()? + rest.strip_suffix('s')?.parse::<f64>().ok()?)
+    simulator.stdin.take()?.write_all(commands.as_bytes()).ok()?;
+    let output = simulator.wait_with_output().ok()?;
+    Some(String::from_utf8_lossy(&output.stdout).into_owned())
 }
 
 fn intel_hex(code: &[u8]) -> String {
