@@ -4,7 +4,6 @@ use native.Mathlib.Omega.{arith}
 use denote.Ref.{now}
 use Rattle.stm8.specs.declared.Decoded.the-variants.{Found}
 use Rattle.code.specs.Code.{instructionAt, decodedAt}
-use Rattle.code.proofs.Sets.{decoded-at}
 use Rattle.code.proofs.Starts.{found-inside}
 use Rattle.checker.proofs.DecodePass.{start-undecoded, start-off, start-stored}
 use borrow.Author.Needs.{needs}
@@ -18,8 +17,7 @@ answer : (c : tie.After-decode-at) →
 answer c =
     let s = c .before .before in
     let image = now (s .args .image) in
-    c .decode-at .ensures ∙
-    decoded-at image (λ k. omega (arith, c .before .shared-slice-known .given k)) _ (s .pre .1) (s .args .r .end) (s .args .at) ∙
+    c .decode-at .ensures (s .pre .1) ∙
     ap (λ n. decodedAt image n (s .args .at)) (s .pre .0 .end-is)
 
 returns : tie.Need-returns
