@@ -6,13 +6,13 @@ use mathlib.Core.Bool.{Bool, true, false, cond}
 use mathlib.Core.List.{List}
 use native.Mathlib.Decide.{ℕ-discrete}
 use native.Mathlib.Omega.{arith}
-use borrow.Author.Tests.{eq-eqb, ne-eqb}
+use borrow.Author.Tests.{ne-eqb}
 use lib.Dec.{eqb, leb, ltb}
 use lib.ListN.{length, getD}
 use Rattle.numbers.specs.Lists.{Bytes}
 use Rattle.numbers.proofs.Computing.{below}
 use Rattle.stm8.specs.OpcodeMap.{Page, Plain, After72, After90, Entry, Blank, Is, entry}
-use Rattle.stm8.specs.Decoding.{pageOf, precodes, entryIn, lengthOf, lengths, foundAs, sized, decodedIn, decoded, tableOf, decodedBy, decodingNumber}
+use Rattle.stm8.specs.Decoding.{pageOf, precodes, entryIn, lengthOf, lengths, sized, decodedIn, decoded, tableOf, decodedBy, decodingNumber}
 use Rattle.stm8.specs.Encoding.{bytesOf}
 use Rattle.stm8.specs.declared.Instruction.{Instruction}
 use Rattle.stm8.specs.declared.Decoded.{Decoded}

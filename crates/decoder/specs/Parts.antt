@@ -1,4 +1,4 @@
--- What the parts of decoding answer: a row, a page, a page's bytes, lent tables; and numbers that hold several. No public contract cites it.
+-- What the parts of decoding answer: a row, a page, bytes on a page, by lent tables; and the lengths of a row. No public contract cites it.
 use Prim.Native.Nat.{ℕ, _+_, _*_, _%_}
 use mathlib.Core.List.{List, [], _∷_, map}
 use mathlib.Core.Bool.{cond}
@@ -30,10 +30,6 @@ decodedOr i page n s = cond (leb (length s) (precodes page)) Truncated (sized n 
 -- the same by lent tables
 unfoldable pub decodedByOr : Instruction → List (List ℕ) → List ℕ → Decoded
 decodedByOr i tables s = let page = pageOf (getD s 0 0) in decodedOr i page (getD (tableOf tables page) (getD s (precodes page) 0) 0) s
-
--- four bytes as one number
-unfoldable pub fourBytes : ℕ → ℕ → ℕ → ℕ → ℕ
-fourBytes a b c d = a * 0x1000000 + b * 0x10000 + c * 0x100 + d
 
 -- the lengths of a row of a page as one number: a digit of four bits for each column, the lowest for column 0
 abbrev pub digits : List ℕ → ℕ
