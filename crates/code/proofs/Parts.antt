@@ -56,11 +56,10 @@ within s at end =
     let none : min end (length s) - min at (min end (length s)) ≡ 0 = omega arith in
     rw none (take-same 0 (end - at) (drop at s) (rw size (past at end (length s) (omega arith)))))
 
-pub part : (image : List ℕ) (code at end from to : ℕ) → from ≡ min code (length image) → to ≡ from + min end (length image - from) →
-    take (to - (from + min at (to - from))) (drop (from + min at (to - from)) image) ≡ take (end - at) (drop at (drop code image))
-part image code at end from to f t =
-    let rest = drop from image in
-    let room : length rest ≡ length image - from = length-drop from image in
-    let n : to - from ≡ min end (length rest) = omega arith in
-    let whole : to ≡ from + min end (length rest) = t ∙ ap (λ k. from + min end k) (sym room) in
-    rw (n, whole, same-front from (min end (length rest)) (min at (min end (length rest))), ← drop-drop (min at (min end (length rest))) from image, within rest at end, drop-same from code image (omega arith))
+pub part : (image : List ℕ) (code at end from to code′ : ℕ) → code′ ≡ min code (length image) → to ≡ min end (length image - code′) → from ≡ min at to →
+    take (code′ + to - (code′ + from)) (drop (code′ + from) image) ≡ take (end - at) (drop at (drop code image))
+part image code at end from to code′ c t f =
+    let rest = drop code′ image in
+    let room : length rest ≡ length image - code′ = length-drop code′ image in
+    let t′ : to ≡ min end (length rest) = t ∙ ap (min end) (sym room) in
+    rw (same-front code′ to from, ← drop-drop from code′ image, f, t′, within rest at end, drop-same code′ code image (omega arith))

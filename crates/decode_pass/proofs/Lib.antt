@@ -1,3 +1,2 @@
 pub mod Callees
-pub mod Lengths
 pub mod DecodePass

@@ -1,3 +1,6 @@
 pub mod Arms
-pub mod InSet
-pub mod Lengths
+pub mod Operands
+pub mod Sizes
+pub mod Selected
+pub mod Known
+mod FoundBytes

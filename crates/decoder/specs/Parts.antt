@@ -1,11 +1,14 @@
--- What the parts of decoding answer: a row, a page, the columns of a row, a page's table of lengths. No public contract cites it.
+-- What the parts of decoding answer: a row, a page, bytes on a page, by lent tables; and the lengths of a row. No public contract cites it.
 use Prim.Native.Nat.{ℕ, _+_, _*_, _%_}
-use mathlib.Core.List.{List, [], _∷_}
-use lib.ListN.{getD}
-use Rattle.stm8.specs.OpcodeMap.{Page, Entry, Blank, Is, entry}
-use Rattle.stm8.specs.Decoding.{precodes, foundAs, decodedIn}
+use mathlib.Core.List.{List, [], _∷_, map}
+use mathlib.Core.Bool.{cond}
+use lib.Dec.{leb}
+use lib.ListN.{length, getD}
+use Rattle.stm8.specs.OpcodeMap.{Page, Entry, Blank, Is, rows, entry}
+use Rattle.stm8.specs.Decoding.{pageOf, precodes, entryIn, lengthOf, sized, tableOf}
 use Rattle.stm8.specs.declared.Instruction.{Instruction}
 use Rattle.stm8.specs.declared.Decoded.{Decoded}
+use Rattle.stm8.specs.declared.Decoded.the-variants.{Truncated}
 
 -- the instruction of an entry, or the one given where it is blank: `r ≡ orElse r e` says that r is what stands at e, if anything does
 abbrev pub orElse : Instruction → Entry → Instruction
@@ -20,19 +23,18 @@ inRow row op i = orElse i (getD row (op % 16) Blank)
 unfoldable pub onPage : Page → ℕ → ℕ → ℕ → ℕ → ℕ → Instruction → Instruction
 onPage page op a b c d i = orElse i (entry page op a b c d)
 
--- the columns of a row that are not blank: a bit for each, the lowest for column 0
-abbrev pub presence : Entry → ℕ
-presence Blank = 0
-presence (Is i) = 1
+-- the bytes on a page whose op-code has n bytes, where a blank entry counts as i
+unfoldable pub decodedOr : Instruction → Page → ℕ → List ℕ → Decoded
+decodedOr i page n s = cond (leb (length s) (precodes page)) Truncated (sized n (Is (orElse i (entryIn page s))) (length s))
 
-abbrev pub columns : List Entry → ℕ
-columns [] = 0
-columns (e ∷ row) = presence e + 2 * columns row
+-- the same by lent tables
+unfoldable pub decodedByOr : Instruction → List (List ℕ) → List ℕ → Decoded
+decodedByOr i tables s = let page = pageOf (getD s 0 0) in decodedOr i page (getD (tableOf tables page) (getD s (precodes page) 0) 0) s
 
--- an op-code of the given length on a page, with the bytes after it
-unfoldable pub decodedAs : Page → ℕ → ℕ → ℕ → ℕ → ℕ → ℕ → Decoded
-decodedAs page op n a b c d = foundAs n (entry page op a b c d)
+-- the lengths of a row of a page as one number: a digit of four bits for each column, the lowest for column 0
+abbrev pub digits : List ℕ → ℕ
+digits [] = 0
+digits (n ∷ s) = n + 16 * digits s
 
--- the bytes on a page, by its table of lengths
-unfoldable pub byTable : Page → List ℕ → List ℕ → Decoded
-byTable page lengths s = decodedIn page (getD lengths (getD s (precodes page) 0) 0) s
+unfoldable pub rowLengths : Page → ℕ → ℕ
+rowLengths page row = digits (map lengthOf (getD (rows page 0 0 0 0) row []))

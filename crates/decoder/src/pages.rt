@@ -1,12 +1,10 @@
-// The three op-code pages: the length is looked up in the page's table, and the row by the op-code's high digit.
+// The three op-code pages: of an op-code whose length is known, the row by its high digit. Whether the map has the op-code is not asked:
+// where it has not, some instruction or other is given.
 ghost use mathlib.Core.Path.{_≡_};
-ghost use lib.ListN.{getD};
+ghost use Prim.Native.Nat.{_+_, _*_, _/_, _%_, _≤_};
+ghost use Rattle.numbers.specs.Words.{high as highOf, low as lowOf, wordAt};
 ghost use Rattle.stm8.specs.OpcodeMap.{Plain, After72, After90};
-ghost use Rattle.decoder.specs.Parts.{onPage, decodedAs, byTable};
-use crate::columns::after_72_columns;
-use crate::columns::after_90_columns;
-use crate::columns::has_column;
-use crate::columns::plain_columns;
+ghost use Rattle.decoder.specs.Parts.{onPage, decodedOr};
 use crate::prefixed::bit_jump_row;
 use crate::prefixed::bit_row;
 use crate::prefixed::row_72_5;
@@ -33,24 +31,27 @@ use crate::shared::register_row_8;
 use crate::shared::register_row_9;
 use crate::shared::short_offset_row;
 use numbers::words::byte_at;
+use numbers::words::high;
+use numbers::words::low;
 use numbers::words::word;
+use numbers::words::word_at;
 use stm8::BitOp;
 use stm8::Decoded;
 use stm8::Instruction;
 use stm8::Register;
 
-// The instruction at an op-code of the page without pre-code, with the bytes after it.
-fn plain_instruction(op: u8, a: u8, b: u8, c: u8, d: u8) -> Instruction
-    ensures { λ r. ⌜ r ≡ onPage Plain op a b c d r ⌝ }
+// The instruction at an op-code of the page without pre-code; ab and cd are the words after it.
+fn plain_instruction(op: u8, ab: u16, cd: u16) -> Instruction
+    ensures { λ r. ⌜ r ≡ onPage Plain op (highOf ab) (lowOf ab) (highOf cd) (lowOf cd) r ⌝ }
 {
-    let ab = word(a, b);
+    let a = high(ab);
     let row = op / 16;
     match row {
         1 => row_1(op, a, ab),
         2 => row_2(op, a),
-        3 => row_3(op, a, ab, word(b, c)),
-        4 => row_4(op, a, b),
-        5 => row_5(op, a, ab, word(c, d)),
+        3 => row_3(op, a, ab, word(low(ab), high(cd))),
+        4 => row_4(op, a, low(ab)),
+        5 => row_5(op, a, ab, cd),
         6 => row_6(a),
         7 => row_7(a),
         8 => row_8(op),
@@ -64,11 +65,10 @@ fn plain_instruction(op: u8, a: u8, b: u8, c: u8, d: u8) -> Instruction
     }
 }
 
-// The same on the page after 72.
-fn after_72_instruction(op: u8, a: u8, b: u8, c: u8) -> Instruction
-    ensures { λ r. ⌜ r ≡ onPage After72 op a b c 0 r ⌝ }
+// The same on the page after 72; c is the byte after the word.
+fn after_72_instruction(op: u8, ab: u16, c: u8) -> Instruction
+    ensures { λ r. ⌜ r ≡ onPage After72 op (highOf ab) (lowOf ab) c 0 r ⌝ }
 {
-    let ab = word(a, b);
     let row = op / 16;
     match row {
         0 => bit_jump_row(op, ab, c),
@@ -79,10 +79,9 @@ fn after_72_instruction(op: u8, a: u8, b: u8, c: u8) -> Instruction
 }
 
 // The same on the page after 90.
-fn after_90_instruction(op: u8, a: u8, b: u8) -> Instruction
-    ensures { λ r. ⌜ r ≡ onPage After90 op a b 0 0 r ⌝ }
+fn after_90_instruction(op: u8, ab: u16) -> Instruction
+    ensures { λ r. ⌜ r ≡ onPage After90 op (highOf ab) (lowOf ab) 0 0 r ⌝ }
 {
-    let ab = word(a, b);
     let row = op / 16;
     match row {
         1 => bit_row(op, BitOp::Bcpl, BitOp::Bccm, ab),
@@ -93,119 +92,100 @@ fn after_90_instruction(op: u8, a: u8, b: u8) -> Instruction
         10 => row_90_a(op, ab),
         12 => row_90_c(op, ab),
         13 => long_offset_row(op, Register::Y, ab),
-        14 => short_offset_row(op, Register::Y, a),
+        14 => short_offset_row(op, Register::Y, high(ab)),
         _ => no_offset_row(op, Register::Y),
     }
 }
 
-// An op-code of the given length, with the bytes after it: its instruction, if the op-code is in the set.
-fn plain_entry(op: u8, length: usize, a: u8, b: u8, c: u8, d: u8) -> Decoded
-    ensures { λ r. ⌜ r ≡ decodedAs Plain op length a b c d ⌝ }
+// Two words as one number, and each of them.
+fn joined(first: u16, second: u16) -> u32
+    ensures { λ r. ⌜ r ≡ first * 0x10000 + second ⌝ }
 {
-    if has_column(plain_columns(op), op) {
-        Decoded::Found(plain_instruction(op, a, b, c, d), length)
+    first as u32 * 0x10000 + second as u32
+}
+
+fn first_word(both: u32) -> u16
+    ensures { λ r. ⌜ r ≡ both / 0x10000 ⌝ }
+{
+    (both / 0x10000) as u16
+}
+
+fn second_word(both: u32) -> u16
+    ensures { λ r. ⌜ r ≡ both % 0x10000 ⌝ }
+{
+    (both % 0x10000) as u16
+}
+
+// The two words from an index on. Where all four bytes are there, one test tells; a byte past the end counts as 0.
+fn two_words(bytes: &[u8], at: usize) -> u32
+    requires { ⌜ at ≤ 2 ⌝ }
+    ensures { λ r. ⌜ r ≡ wordAt (now (bytes .entry)) at * 0x10000 + wordAt (now (bytes .entry)) (at + 2) ⌝ }
+{
+    if at + 3 < bytes.len() {
+        joined(
+            word(bytes[at], bytes[at + 1]),
+            word(bytes[at + 2], bytes[at + 3]),
+        )
     } else {
-        Decoded::Outside
+        joined(word_at(bytes, at), word_at(bytes, at + 2))
     }
 }
 
-fn after_72_entry(op: u8, length: usize, a: u8, b: u8, c: u8) -> Decoded
-    ensures { λ r. ⌜ r ≡ decodedAs After72 op length a b c 0 ⌝ }
-{
-    if has_column(after_72_columns(op), op) {
-        Decoded::Found(after_72_instruction(op, a, b, c), length)
-    } else {
-        Decoded::Outside
-    }
-}
-
-fn after_90_entry(op: u8, length: usize, a: u8, b: u8) -> Decoded
-    ensures { λ r. ⌜ r ≡ decodedAs After90 op length a b 0 0 ⌝ }
-{
-    if has_column(after_90_columns(op), op) {
-        Decoded::Found(after_90_instruction(op, a, b), length)
-    } else {
-        Decoded::Outside
-    }
-}
-
-// A length of a table. The cast has a function of its own, since an argument is known to be a byte, and an element of a lent array is not.
-fn wide(length: u8) -> usize
-    ensures { λ r. ⌜ r ≡ length ⌝ }
-{
-    length as usize
-}
-
-// The length of an op-code with its operands, by its page's table: whoever has an op-code without its operands asks for it too.
-pub fn opcode_length(op: u8, lengths: &[u8; 256]) -> usize
-    ensures { λ r. ⌜ r ≡ getD (now (lengths .entry)) op 0 ⌝ }
-{
-    wide(lengths[op as usize])
-}
-
-// The bytes on the page without pre-code, by its table of lengths.
-pub fn plain(bytes: &[u8], lengths: &[u8; 256]) -> Decoded
-    ensures { λ r. ⌜ r ≡ byTable Plain (now (lengths .entry)) (now (bytes .entry)) ⌝ }
+// The bytes on the page without pre-code, by the length of their op-code.
+pub fn plain(bytes: &[u8], length: usize) -> Decoded
+    ensures { λ r. ⌜ ((i : Instruction) × (r ≡ decodedOr i Plain length (now (bytes .entry)))) ⌝ }
 {
     if bytes.len() == 0 {
         return Decoded::Truncated;
     }
-    let op = byte_at(bytes, 0);
-    let length = opcode_length(op, lengths);
     if length == 0 {
         return Decoded::Outside;
     }
     if bytes.len() < length {
         return Decoded::Truncated;
     }
-    plain_entry(
-        op,
+    let rest = two_words(bytes, 1);
+    Decoded::Found(
+        plain_instruction(byte_at(bytes, 0), first_word(rest), second_word(rest)),
         length,
-        byte_at(bytes, 1),
-        byte_at(bytes, 2),
-        byte_at(bytes, 3),
-        byte_at(bytes, 4),
     )
 }
 
 // The same on the page after 72.
-pub fn after_72(bytes: &[u8], lengths: &[u8; 256]) -> Decoded
-    ensures { λ r. ⌜ r ≡ byTable After72 (now (lengths .entry)) (now (bytes .entry)) ⌝ }
+pub fn after_72(bytes: &[u8], length: usize) -> Decoded
+    ensures { λ r. ⌜ ((i : Instruction) × (r ≡ decodedOr i After72 length (now (bytes .entry)))) ⌝ }
 {
     if bytes.len() <= 1 {
         return Decoded::Truncated;
     }
-    let op = byte_at(bytes, 1);
-    let length = opcode_length(op, lengths);
     if length == 0 {
         return Decoded::Outside;
     }
     if bytes.len() < length {
         return Decoded::Truncated;
     }
-    after_72_entry(
-        op,
+    let rest = two_words(bytes, 2);
+    Decoded::Found(
+        after_72_instruction(byte_at(bytes, 1), first_word(rest), high(second_word(rest))),
         length,
-        byte_at(bytes, 2),
-        byte_at(bytes, 3),
-        byte_at(bytes, 4),
     )
 }
 
 // The same on the page after 90.
-pub fn after_90(bytes: &[u8], lengths: &[u8; 256]) -> Decoded
-    ensures { λ r. ⌜ r ≡ byTable After90 (now (lengths .entry)) (now (bytes .entry)) ⌝ }
+pub fn after_90(bytes: &[u8], length: usize) -> Decoded
+    ensures { λ r. ⌜ ((i : Instruction) × (r ≡ decodedOr i After90 length (now (bytes .entry)))) ⌝ }
 {
     if bytes.len() <= 1 {
         return Decoded::Truncated;
     }
-    let op = byte_at(bytes, 1);
-    let length = opcode_length(op, lengths);
     if length == 0 {
         return Decoded::Outside;
     }
     if bytes.len() < length {
         return Decoded::Truncated;
     }
-    after_90_entry(op, length, byte_at(bytes, 2), byte_at(bytes, 3))
+    Decoded::Found(
+        after_90_instruction(byte_at(bytes, 1), word_at(bytes, 2)),
+        length,
+    )
 }

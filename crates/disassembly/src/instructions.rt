@@ -3,11 +3,41 @@ ghost use mathlib.Core.Path.{_≡_};
 ghost use mathlib.Core.Bool.{cond};
 ghost use Prim.Native.Nat.{_+_};
 ghost use lib.Dec.{leb};
-ghost use Rattle.disassembly.specs.Notation.{target as targetOf, text};
-ghost use Rattle.disassembly.specs.Writing.{blank, wrote};
-use crate::names;
-use crate::writing::Text;
+ghost use Rattle.disassembly.specs.Notation.{target as targetOf, text as textOf};
+ghost use Rattle.disassembly.specs.Writing.{Wrote};
+use crate::LONGEST;
+use crate::names::ADDW;
+use crate::names::CALL;
+use crate::names::CALLR;
+use crate::names::EXGW;
+use crate::names::LD;
+use crate::names::LDW;
+use crate::names::MOV;
+use crate::names::MUL;
+use crate::names::NOP;
+use crate::names::POP;
+use crate::names::POPW;
+use crate::names::PUSH;
+use crate::names::PUSHW;
+use crate::names::RET;
+use crate::names::SUB;
+use crate::names::alu_name;
+use crate::names::bit_name;
+use crate::names::condition_name;
+use crate::names::flag_name;
+use crate::names::modify_name;
+use crate::names::test_name;
+use crate::names::word_alu_name;
+use crate::names::word_modify_name;
+use crate::writing::address;
+use crate::writing::half;
+use crate::writing::letter;
 use crate::writing::named;
+use crate::writing::operand;
+use crate::writing::other;
+use crate::writing::position;
+use crate::writing::register;
+use crate::writing::stack_pointer;
 use effects::relative;
 use stm8::Instruction;
 use stm8::Operand;
@@ -28,50 +58,66 @@ fn bit_jump_length(position: u8) -> u8
 }
 
 // The text of the instruction at an address.
-pub fn text_of(i: Instruction, address: u16) -> Text
-    ensures { λ r. ⌜ r ≡ wrote blank (text address i) ⌝ }
+pub fn text_of(i: Instruction, here: u16, t: &mut [u8; LONGEST]) -> usize
+    ensures { λ r. ⌜ Wrote 0 (now (t .entry)) (textOf here i) r (now (t .exit)) ⌝ }
 {
     match i {
-        Instruction::Alu(o, x) => named(names::alu_name(o))
-            .letter(b' ', b'A')
-            .operand(b',', x),
-        Instruction::Store(x) => named(names::LD).operand(b' ', x).letter(b',', b'A'),
-        Instruction::LoadHalf(r, h) => named(names::LD).letter(b' ', b'A').half(b',', r, h),
-        Instruction::StoreHalf(r, h) => named(names::LD).half(b' ', r, h).letter(b',', b'A'),
-        Instruction::Modify(o, x) => named(names::modify_name(o)).operand(b' ', x),
-        Instruction::LoadWord(r, x) => named(names::LDW).register(b' ', r).operand(b',', x),
-        Instruction::StoreWord(r, x) => named(names::LDW).operand(b' ', x).register(b',', r),
-        Instruction::CopyWord(r) => named(names::LDW).register(b' ', r).other(b',', r),
-        Instruction::WordAlu(o, r, w) => named(names::word_alu_name(o))
-            .register(b' ', r)
-            .operand(b',', Operand::ImmediateWord(w)),
-        Instruction::WordModify(o, r) => named(names::word_modify_name(o)).register(b' ', r),
-        Instruction::Pushw(r) => named(names::PUSHW).register(b' ', r),
-        Instruction::Popw(r) => named(names::POPW).register(b' ', r),
-        Instruction::Exgw => named(names::EXGW).letter(b' ', b'X').letter(b',', b'Y'),
-        Instruction::Mul(r) => named(names::MUL).register(b' ', r).letter(b',', b'A'),
-        Instruction::Bit(o, n, w) => named(names::bit_name(o)).address(b' ', w).position(b',', n),
-        Instruction::BitJump(o, n, w, j) => named(names::test_name(o))
-            .address(b' ', w)
-            .position(b',', n)
-            .address(b',', target(address, bit_jump_length(n), j)),
-        Instruction::Mov(to, from) => named(names::MOV).operand(b' ', to).operand(b',', from),
-        Instruction::Push(x) => named(names::PUSH).operand(b' ', x),
-        Instruction::Pop(x) => named(names::POP).operand(b' ', x),
-        Instruction::SubSp(n) => named(names::SUB)
-            .stack_pointer(b' ')
-            .operand(b',', Operand::Immediate(n)),
-        Instruction::AddSp(n) => named(names::ADDW)
-            .stack_pointer(b' ')
-            .operand(b',', Operand::Immediate(n)),
-        Instruction::Jump(o, n) => named(names::condition_name(o)).address(
-            b' ',
-            target(address, 2, n),
+        Instruction::Alu(o, x) => operand(letter(named(alu_name(o), t), b' ', b'A', t), b',', x, t),
+        Instruction::Store(x) => letter(operand(named(LD, t), b' ', x, t), b',', b'A', t),
+        Instruction::LoadHalf(r, h) => half(letter(named(LD, t), b' ', b'A', t), b',', r, h, t),
+        Instruction::StoreHalf(r, h) => letter(half(named(LD, t), b' ', r, h, t), b',', b'A', t),
+        Instruction::Modify(o, x) => operand(named(modify_name(o), t), b' ', x, t),
+        Instruction::LoadWord(r, x) => operand(register(named(LDW, t), b' ', r, t), b',', x, t),
+        Instruction::StoreWord(r, x) => register(operand(named(LDW, t), b' ', x, t), b',', r, t),
+        Instruction::CopyWord(r) => other(register(named(LDW, t), b' ', r, t), b',', r, t),
+        Instruction::WordAlu(o, r, w) => operand(
+            register(named(word_alu_name(o), t), b' ', r, t),
+            b',',
+            Operand::ImmediateWord(w),
+            t,
         ),
-        Instruction::Call(w) => named(names::CALL).address(b' ', w),
-        Instruction::Callr(n) => named(names::CALLR).address(b' ', target(address, 2, n)),
-        Instruction::Ret => named(names::RET),
-        Instruction::Nop => named(names::NOP),
-        Instruction::Flag(o) => named(names::flag_name(o)),
+        Instruction::WordModify(o, r) => register(named(word_modify_name(o), t), b' ', r, t),
+        Instruction::Pushw(r) => register(named(PUSHW, t), b' ', r, t),
+        Instruction::Popw(r) => register(named(POPW, t), b' ', r, t),
+        Instruction::Exgw => letter(letter(named(EXGW, t), b' ', b'X', t), b',', b'Y', t),
+        Instruction::Mul(r) => letter(register(named(MUL, t), b' ', r, t), b',', b'A', t),
+        Instruction::Bit(o, n, w) => position(
+            address(named(bit_name(o), t), b' ', w, t),
+            b',',
+            n,
+            t,
+        ),
+        Instruction::BitJump(o, n, w, j) => address(
+            position(address(named(test_name(o), t), b' ', w, t), b',', n, t),
+            b',',
+            target(here, bit_jump_length(n), j),
+            t,
+        ),
+        Instruction::Mov(to, from) => operand(operand(named(MOV, t), b' ', to, t), b',', from, t),
+        Instruction::Push(x) => operand(named(PUSH, t), b' ', x, t),
+        Instruction::Pop(x) => operand(named(POP, t), b' ', x, t),
+        Instruction::SubSp(n) => operand(
+            stack_pointer(named(SUB, t), b' ', t),
+            b',',
+            Operand::Immediate(n),
+            t,
+        ),
+        Instruction::AddSp(n) => operand(
+            stack_pointer(named(ADDW, t), b' ', t),
+            b',',
+            Operand::Immediate(n),
+            t,
+        ),
+        Instruction::Jump(o, n) => address(
+            named(condition_name(o), t),
+            b' ',
+            target(here, 2, n),
+            t,
+        ),
+        Instruction::Call(w) => address(named(CALL, t), b' ', w, t),
+        Instruction::Callr(n) => address(named(CALLR, t), b' ', target(here, 2, n), t),
+        Instruction::Ret => named(RET, t),
+        Instruction::Nop => named(NOP, t),
+        Instruction::Flag(o) => named(flag_name(o), t),
     }
 }

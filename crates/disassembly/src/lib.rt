@@ -5,6 +5,7 @@ mod writing;
 
 ghost use mathlib.Core.Path.{_≡_};
 ghost use Rattle.disassembly.specs.Notation.{text as textOf, placed};
+use instructions::text_of;
 use stm8::Instruction;
 pub use writing::hex_digit;
 
@@ -21,9 +22,8 @@ pub enum Written {
 pub fn disassemble(i: Instruction, address: u16, buffer: &mut [u8]) -> Written
     ensures { λ r. ⌜ (r, now (buffer .exit)) ≡ placed (textOf address i) (now (buffer .entry)) ⌝ }
 {
-    let t = instructions::text_of(i, address);
-    let letters = t.letters;
-    let n = t.length;
+    let mut letters = [0u8; LONGEST];
+    let n = text_of(i, address, &mut letters);
     if buffer.len() < n {
         return Written::TooShort;
     }

@@ -1,22 +1,17 @@
-// A text that grows at its end. What stands after a name comes with the byte that separates it from what is there.
+// Writing a text in place. Each function takes the index to write at, and the letters last, and answers the index past what it wrote, so that calls
+// nest in the order of the text. What stands after a name comes with the byte that separates it from what is there.
 ghost use mathlib.Core.Path.{_≡_};
 ghost use mathlib.Core.List.{[], _∷_};
 ghost use Rattle.numbers.specs.Ascii.{ascii};
 ghost use Rattle.stm8.specs.IndexRegisters.{otherOf};
 ghost use Rattle.disassembly.specs.Notation.{digit, byteDigits, byteText, wordText, bitPosition, registerText, halfText, offsetText, operandText};
-ghost use Rattle.disassembly.specs.Writing.{trimmed, blank, pushed, wrote};
+ghost use Rattle.disassembly.specs.Writing.{trimmed, Wrote};
 use crate::LONGEST;
 use numbers::words;
 use stm8::Half;
 use stm8::Offset;
 use stm8::Operand;
 use stm8::Register;
-
-// A text that is being written.
-pub struct Text {
-    pub letters: [u8; LONGEST],
-    pub length: usize,
-}
 
 // The last hexadecimal digit of a byte.
 pub fn hex_digit(n: u8) -> u8
@@ -26,152 +21,159 @@ pub fn hex_digit(n: u8) -> u8
     digits[(n % 16) as usize]
 }
 
-// A text that is a name, without the spaces that fill it up to five letters.
-pub fn named(name: [u8; 5]) -> Text
-    ensures { λ r. ⌜ r ≡ wrote blank (trimmed name) ⌝ }
+// A byte, where there is room.
+fn push(at: usize, b: u8, text: &mut [u8; LONGEST]) -> usize
+    ensures { λ r. ⌜ Wrote at (now (text .entry)) (b ∷ []) r (now (text .exit)) ⌝ }
 {
-    let mut t = Text {
-        letters: [0u8; LONGEST],
-        length: 0,
-    };
-    let mut i = 0;
-    while i < 5 {
-        t = t.push_letter(name[i]);
-        i += 1;
+    if at < LONGEST {
+        text[at] = b;
+        at + 1
+    } else {
+        at
     }
-    t
 }
 
-impl Text {
-    fn push(self, b: u8) -> Text
-        ensures { λ r. ⌜ r ≡ pushed self b ⌝ }
-    {
-        let mut letters = self.letters;
-        let n = self.length;
-        if n < LONGEST {
-            letters[n] = b;
-            Text {
-                letters,
-                length: n + 1,
-            }
-        } else {
-            self
-        }
-    }
+// A byte of a name, unless it is a space.
+fn push_letter(at: usize, b: u8, text: &mut [u8; LONGEST]) -> usize
+    ensures { λ r. ⌜ Wrote at (now (text .entry)) (trimmed (b ∷ [])) r (now (text .exit)) ⌝ }
+{
+    if b == b' ' { at } else { push(at, b, text) }
+}
 
-    // A byte of a name, unless it is a space.
-    fn push_letter(self, b: u8) -> Text
-        ensures { λ r. ⌜ r ≡ wrote self (trimmed (b ∷ [])) ⌝ }
-    {
-        if b == b' ' { self } else { self.push(b) }
+// A name at the text's start, without the spaces that fill it up to five letters.
+pub fn named(name: [u8; 5], text: &mut [u8; LONGEST]) -> usize
+    ensures { λ r. ⌜ Wrote 0 (now (text .entry)) (trimmed name) r (now (text .exit)) ⌝ }
+{
+    let mut at = 0;
+    let mut i = 0;
+    while i < 5 {
+        at = push_letter(at, name[i], text);
+        i += 1;
     }
+    at
+}
 
-    fn push_digits(self, n: u8) -> Text
-        ensures { λ r. ⌜ r ≡ wrote self (byteDigits n) ⌝ }
-    {
-        self.push(hex_digit(n / 16)).push(hex_digit(n))
+fn push_digits(at: usize, n: u8, text: &mut [u8; LONGEST]) -> usize
+    ensures { λ r. ⌜ Wrote at (now (text .entry)) (byteDigits n) r (now (text .exit)) ⌝ }
+{
+    push(push(at, hex_digit(n / 16), text), hex_digit(n), text)
+}
+
+fn push_byte(at: usize, n: u8, text: &mut [u8; LONGEST]) -> usize
+    ensures { λ r. ⌜ Wrote at (now (text .entry)) (byteText n) r (now (text .exit)) ⌝ }
+{
+    push_digits(push(at, b'$', text), n, text)
+}
+
+fn push_word(at: usize, w: u16, text: &mut [u8; LONGEST]) -> usize
+    ensures { λ r. ⌜ Wrote at (now (text .entry)) (wordText w) r (now (text .exit)) ⌝ }
+{
+    push_digits(
+        push_digits(push(at, b'$', text), words::high(w), text),
+        words::low(w),
+        text,
+    )
+}
+
+fn push_register(at: usize, r: Register, text: &mut [u8; LONGEST]) -> usize
+    ensures { λ t. ⌜ Wrote at (now (text .entry)) (registerText r) t (now (text .exit)) ⌝ }
+{
+    match r {
+        Register::X => push(at, b'X', text),
+        Register::Y => push(at, b'Y', text),
     }
+}
 
-    fn push_byte(self, n: u8) -> Text
-        ensures { λ r. ⌜ r ≡ wrote self (byteText n) ⌝ }
-    {
-        self.push(b'$').push_digits(n)
+fn push_offset(at: usize, f: Offset, text: &mut [u8; LONGEST]) -> usize
+    ensures { λ r. ⌜ Wrote at (now (text .entry)) (offsetText f) r (now (text .exit)) ⌝ }
+{
+    match f {
+        Offset::Zero => at,
+        Offset::Byte(n) => push(push_byte(at, n, text), b',', text),
+        Offset::Word(w) => push(push_word(at, w, text), b',', text),
     }
+}
 
-    fn push_word(self, w: u16) -> Text
-        ensures { λ r. ⌜ r ≡ wrote self (wordText w) ⌝ }
-    {
-        self.push(b'$')
-            .push_digits(words::high(w))
-            .push_digits(words::low(w))
+pub fn letter(at: usize, separator: u8, b: u8, text: &mut [u8; LONGEST]) -> usize
+    ensures { λ r. ⌜ Wrote at (now (text .entry)) (separator ∷ b ∷ []) r (now (text .exit)) ⌝ }
+{
+    push(push(at, separator, text), b, text)
+}
+
+pub fn register(at: usize, separator: u8, r: Register, text: &mut [u8; LONGEST]) -> usize
+    ensures { λ t. ⌜ Wrote at (now (text .entry)) (separator ∷ registerText r) t (now (text .exit)) ⌝ }
+{
+    push_register(push(at, separator, text), r, text)
+}
+
+// The index register that r is not.
+pub fn other(at: usize, separator: u8, r: Register, text: &mut [u8; LONGEST]) -> usize
+    ensures { λ t. ⌜ Wrote at (now (text .entry)) (separator ∷ registerText (otherOf r)) t (now (text .exit)) ⌝ }
+{
+    match r {
+        Register::X => letter(at, separator, b'Y', text),
+        Register::Y => letter(at, separator, b'X', text),
     }
+}
 
-    fn push_register(self, r: Register) -> Text
-        ensures { λ t. ⌜ t ≡ wrote self (registerText r) ⌝ }
-    {
-        match r {
-            Register::X => self.push(b'X'),
-            Register::Y => self.push(b'Y'),
-        }
+pub fn half(at: usize, separator: u8, r: Register, h: Half, text: &mut [u8; LONGEST]) -> usize
+    ensures { λ t. ⌜ Wrote at (now (text .entry)) (separator ∷ halfText r h) t (now (text .exit)) ⌝ }
+{
+    match h {
+        Half::Low => push(register(at, separator, r, text), b'L', text),
+        Half::High => push(register(at, separator, r, text), b'H', text),
     }
+}
 
-    fn push_offset(self, f: Offset) -> Text
-        ensures { λ r. ⌜ r ≡ wrote self (offsetText f) ⌝ }
-    {
-        match f {
-            Offset::Zero => self,
-            Offset::Byte(n) => self.push_byte(n).push(b','),
-            Offset::Word(w) => self.push_word(w).push(b','),
-        }
-    }
+pub fn address(at: usize, separator: u8, a: u16, text: &mut [u8; LONGEST]) -> usize
+    ensures { λ r. ⌜ Wrote at (now (text .entry)) (separator ∷ wordText a) r (now (text .exit)) ⌝ }
+{
+    push_word(push(at, separator, text), a, text)
+}
 
-    pub fn letter(self, separator: u8, b: u8) -> Text
-        ensures { λ r. ⌜ r ≡ wrote self (separator ∷ b ∷ []) ⌝ }
-    {
-        self.push(separator).push(b)
-    }
+// A bit position.
+pub fn position(at: usize, separator: u8, n: u8, text: &mut [u8; LONGEST]) -> usize
+    ensures { λ r. ⌜ Wrote at (now (text .entry)) (separator ∷ bitPosition n) r (now (text .exit)) ⌝ }
+{
+    push(
+        push(push(at, separator, text), b'#', text),
+        hex_digit(n),
+        text,
+    )
+}
 
-    pub fn register(self, separator: u8, r: Register) -> Text
-        ensures { λ t. ⌜ t ≡ wrote self (separator ∷ registerText r) ⌝ }
-    {
-        self.push(separator).push_register(r)
-    }
+pub fn stack_pointer(at: usize, separator: u8, text: &mut [u8; LONGEST]) -> usize
+    ensures { λ r. ⌜ Wrote at (now (text .entry)) (separator ∷ ascii "SP") r (now (text .exit)) ⌝ }
+{
+    push(letter(at, separator, b'S', text), b'P', text)
+}
 
-    // The index register that r is not.
-    pub fn other(self, separator: u8, r: Register) -> Text
-        ensures { λ t. ⌜ t ≡ wrote self (separator ∷ registerText (otherOf r)) ⌝ }
-    {
-        match r {
-            Register::X => self.letter(separator, b'Y'),
-            Register::Y => self.letter(separator, b'X'),
-        }
-    }
-
-    pub fn half(self, separator: u8, r: Register, h: Half) -> Text
-        ensures { λ t. ⌜ t ≡ wrote self (separator ∷ halfText r h) ⌝ }
-    {
-        match h {
-            Half::Low => self.register(separator, r).push(b'L'),
-            Half::High => self.register(separator, r).push(b'H'),
-        }
-    }
-
-    pub fn address(self, separator: u8, a: u16) -> Text
-        ensures { λ r. ⌜ r ≡ wrote self (separator ∷ wordText a) ⌝ }
-    {
-        self.push(separator).push_word(a)
-    }
-
-    // A bit position.
-    pub fn position(self, separator: u8, n: u8) -> Text
-        ensures { λ r. ⌜ r ≡ wrote self (separator ∷ bitPosition n) ⌝ }
-    {
-        self.push(separator).push(b'#').push(hex_digit(n))
-    }
-
-    pub fn stack_pointer(self, separator: u8) -> Text
-        ensures { λ r. ⌜ r ≡ wrote self (separator ∷ ascii "SP") ⌝ }
-    {
-        self.letter(separator, b'S').push(b'P')
-    }
-
-    pub fn operand(self, separator: u8, x: Operand) -> Text
-        ensures { λ r. ⌜ r ≡ wrote self (separator ∷ operandText x) ⌝ }
-    {
-        match x {
-            Operand::Accumulator => self.letter(separator, b'A'),
-            Operand::Immediate(n) => self.letter(separator, b'#').push_byte(n),
-            Operand::ImmediateWord(w) => self.letter(separator, b'#').push_word(w),
-            Operand::Short(a) => self.push(separator).push_byte(a),
-            Operand::Long(a) => self.address(separator, a),
-            Operand::Indexed(r, f) => self.letter(separator, b'(')
-                .push_offset(f)
-                .push_register(r)
-                .push(b')'),
-            Operand::Sp(n) => self.letter(separator, b'(')
-                .push_byte(n)
-                .stack_pointer(b',')
-                .push(b')'),
-        }
+pub fn operand(at: usize, separator: u8, x: Operand, text: &mut [u8; LONGEST]) -> usize
+    ensures { λ r. ⌜ Wrote at (now (text .entry)) (separator ∷ operandText x) r (now (text .exit)) ⌝ }
+{
+    match x {
+        Operand::Accumulator => letter(at, separator, b'A', text),
+        Operand::Immediate(n) => push_byte(letter(at, separator, b'#', text), n, text),
+        Operand::ImmediateWord(w) => push_word(letter(at, separator, b'#', text), w, text),
+        Operand::Short(a) => push_byte(push(at, separator, text), a, text),
+        Operand::Long(a) => address(at, separator, a, text),
+        Operand::Indexed(r, f) => push(
+            push_register(
+                push_offset(letter(at, separator, b'(', text), f, text),
+                r,
+                text,
+            ),
+            b')',
+            text,
+        ),
+        Operand::Sp(n) => push(
+            stack_pointer(
+                push_byte(letter(at, separator, b'(', text), n, text),
+                b',',
+                text,
+            ),
+            b')',
+            text,
+        ),
     }
 }

@@ -7,7 +7,7 @@ ghost use Rattle.machine.specs.Run.{ran};
 ghost use Rattle.stm8.specs.Decoding.{decoded, decodingNumber};
 ghost use mathlib.Core.List.{[], _∷_};
 ghost use Rattle.gate_c.specs.Cells.{limitsBy, registersIn, registerCells, reportCells};
-ghost use Rattle.gate_c.specs.Cells.{decodedLength, instructionText, textCells, startedBy, startedCells, steppedCells, ranCells};
+ghost use Rattle.gate_c.specs.Cells.{decodedLength, textCells, startedBy, startedCells, steppedCells, ranCells};
 use decoder::decode;
 use decoder::decoding_number;
 use disassembly::disassemble;
@@ -23,7 +23,6 @@ use gate::step;
 use gate::step_number;
 use rules::verdict_number;
 use stm8::Decoded;
-use stm8::Instruction;
 
 fn limits(grant_low: u16, grant_high: u16, stack_low: u16, stack_high: u16) -> Limits
     ensures { λ r. ⌜ r ≡ limitsBy «grant_low» «grant_high» «stack_low» «stack_high» ⌝ }
@@ -205,22 +204,17 @@ pub extern "C" fn gate_run(
     run_number(answer)
 }
 
-// An instruction's text, with 0 after it: no text is longer than 23 letters.
-fn instruction_text(i: Instruction, address: u16) -> [u8; 24]
-    ensures { λ r. ⌜ r ≡ instructionText address i ⌝ }
+// The text of what was decoded, written where the caller wants it, with 0 after it: no text is longer than 23 letters.
+fn put_text(found: Decoded, address: u16, text: &mut [u8; 24])
+    ensures { λ _. ⌜ now (text .exit) ≡ textCells address found ⌝ }
 {
-    let mut cells = [0u8; 24];
-    disassemble(i, address, &mut cells[..]);
-    cells
-}
-
-fn text_cells(found: Decoded, address: u16) -> [u8; 24]
-    ensures { λ r. ⌜ r ≡ textCells address found ⌝ }
-{
+    *text = [0u8; 24];
     match found {
-        Decoded::Found(i, _) => instruction_text(i, address),
-        Decoded::Outside => [0u8; 24],
-        Decoded::Truncated => [0u8; 24],
+        Decoded::Found(i, _) => {
+            disassemble(i, address, &mut text[..]);
+        }
+        Decoded::Outside => {}
+        Decoded::Truncated => {}
     }
 }
 
@@ -247,7 +241,7 @@ pub extern "C" fn gate_decode(
     ensures { λ _. ⌜ now (length .exit) ≡ decodedLength (decoded (now (bytes .entry))) ∷ [] ⌝ }
 {
     let found = decode(bytes);
-    *text = text_cells(found, address);
+    put_text(found, address, text);
     *length = [decoded_length(found)];
     decoding_number(found)
 }

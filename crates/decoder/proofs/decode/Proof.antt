@@ -1,47 +1,14 @@
--- `decoder::decode` meets its contract: the first byte selects the page, whose table holds the lengths of the map.
+-- `decoder::decode` meets its contract: the first byte selects the page.
+use mathlib.Core.Path.{ap, _∙_}
 use denote.Ref.{now}
-use borrow.Author.Tests.{ne-eqb}
+use lib.ListN.{getD}
 use borrow.Author.Needs.{needs}
 use Rattle.stm8.specs.OpcodeMap.{Plain, After72, After90}
-use Rattle.stm8.specs.Decoding.{decoded}
-use Rattle.stm8.proofs.Lengths.{in-page}
-use Rattle.decoder.specs.Parts.{byTable}
+use Rattle.stm8.specs.Decoding.{lengths}
+use Rattle.decoder.proofs.Selected.{page-72, page-90, page-plain, on-page}
+use Rattle.decoder.proofs.Known.{by-own}
 use Rattle.decoder.proofs.decode.Statement.{statement}
 use Rattle.decoder.proofs.decode.Tie as tie
-
-returns : tie.Need-returns
-unfolding decoded byTable
-returns c =
-    let c2 = c .before .before in
-    let c4 = c2 .before .before in
-    let bytes = now (c4 .before .before .args .bytes) in
-    let own = in-page bytes (λ k. c4 .before .shared-slice-known .given k .fits) After72 (c2 .after-72-lengths .result) (c2 .after-72-lengths .ensures) in
-    rw (c .after-72 .ensures, own, ← c4 .byte-at .ensures, c2 .before .if1 .taken)
-
-returns-2 : tie.Need-returns-2
-unfolding decoded byTable
-returns-2 c =
-    let c2 = c .before .before in
-    let c5 = c2 .before .before .before in
-    let bytes = now (c5 .before .before .args .bytes) in
-    let own = in-page bytes (λ k. c5 .before .shared-slice-known .given k .fits) After90 (c2 .after-90-lengths .result) (c2 .after-90-lengths .ensures) in
-    rw (c .after-90 .ensures, own, ← c5 .byte-at .ensures, ne-eqb _ _ (c2 .before .before .if1 .left), c2 .before .if2 .taken)
-
-returns-3 : tie.Need-returns-3
-unfolding decoded byTable
-returns-3 c =
-    let c2 = c .before .before in
-    let c5 = c2 .before .before .before in
-    let bytes = now (c5 .before .before .args .bytes) in
-    let own = in-page bytes (λ k. c5 .before .shared-slice-known .given k .fits) Plain (c2 .plain-lengths .result) (c2 .plain-lengths .ensures) in
-    rw (
-      c .plain .ensures,
-      own,
-      ← c5 .byte-at .ensures,
-      ne-eqb _ _ (c2 .before .before .if1 .left),
-      ne-eqb _ _ (c2 .before .if2 .left),
-      c5 .byte-at .ensures,
-    )
 
 pub decode-spec : {M : Type 1} → statement M
 decode-spec =
@@ -50,10 +17,31 @@ decode-spec =
     (λ c κs. search needs)
     (λ c κs. search needs)
     (λ c κs. search needs)
-    returns
+    (λ c κs. search needs)
+    (λ c.
+    let c3 = c .before .before .before in
+    let start = c3 .before .before in
+    let s = now (start .before .args .bytes) in
+    by-own s (λ k. start .shared-slice-known .given k .fits) After72
+    (c .before .after-72-length .ensures ∙ ap (λ op. getD (lengths After72) op 0) (c .before .before .byte-at2 .ensures)) (c .after-72 .ensures) ∙
+    on-page s (page-72 (c3 .before .byte-at .ensures) (c3 .if1 .taken)))
     (λ c κs. search needs)
     (λ c κs. search needs)
-    returns-2
+    (λ c κs. search needs)
+    (λ c.
+    let c3 = c .before .before .before in
+    let start = c3 .before .before .before in
+    let s = now (start .before .args .bytes) in
+    by-own s (λ k. start .shared-slice-known .given k .fits) After90
+    (c .before .after-90-length .ensures ∙ ap (λ op. getD (lengths After90) op 0) (c .before .before .byte-at3 .ensures)) (c .after-90 .ensures) ∙
+    on-page s (page-90 (c3 .before .before .byte-at .ensures) (c3 .before .if1 .left) (c3 .if2 .taken)))
     (λ c κs. search needs)
     (λ c κs. search needs)
-    returns-3)
+    (λ c.
+    let c2 = c .before .before in
+    let start = c2 .before .before .before in
+    let s = now (start .before .args .bytes) in
+    let first = c2 .before .before .byte-at .ensures in
+    by-own s (λ k. start .shared-slice-known .given k .fits) Plain
+    (c .before .plain-length .ensures ∙ ap (λ op. getD (lengths Plain) op 0) first) (c .plain .ensures) ∙
+    on-page s (page-plain first (c2 .before .if1 .left) (c2 .if2 .left))))

@@ -1,28 +1,37 @@
--- `decoder::decode_by` meets its contract: the first byte selects the page.
-use borrow.Author.Tests.{ne-eqb}
+-- `decoder::decode_by` meets its contract.
+use mathlib.Core.Path.{ap, sym, _∙_}
+use denote.Ref.{now}
 use borrow.Author.Needs.{needs}
-use Rattle.stm8.specs.Decoding.{decodedBy}
-use Rattle.decoder.specs.Parts.{byTable}
+use Rattle.stm8.specs.Decoding.{decodingNumber}
+use Rattle.decoder.proofs.Known.{not-found, in-map, not-in-map}
 use Rattle.decoder.proofs.decode_by.Statement.{statement}
 use Rattle.decoder.proofs.decode_by.Tie as tie
 
 pub decode-by-spec : {M : Type 1} → statement M
-unfolding decodedBy byTable
 decode-by-spec =
     tie.close
     (tie.spec
     (λ c κs. search needs)
-    (λ c. search needs)
-    (λ c κs. search needs)
-    (λ c. rw (c .after-72 .ensures, ← c .before .before .before .byte-at .ensures, c .before .before .if1 .taken))
-    (λ c. search needs)
     (λ c κs. search needs)
     (λ c.
     let c2 = c .before .before in
-    rw (c .after-90 .ensures, ← c2 .before .before .byte-at .ensures, ne-eqb _ _ (c2 .before .if1 .left), c2 .if2 .taken))
-    (λ c. search needs)
+    let a = c2 .before .before .args in
+    let d = c2 .decode-any .ensures in
+    d .1 ∙ not-found (now (a .lengths)) (now (a .bytes)) (d .0)
+    (λ z. c .if1 .taken (c .before .decoding-number .ensures ∙ ap decodingNumber (d .1) ∙ z)))
+    (λ c κs. search needs)
     (λ c κs. search needs)
     (λ c.
     let c3 = c .before .before .before in
-    let c4 = c3 .before in
-    rw (c .plain .ensures, ← c4 .byte-at .ensures, ne-eqb _ _ (c3 .if1 .left), ne-eqb _ _ (c .before .before .if2 .left), c4 .byte-at .ensures)))
+    let c5 = c3 .before .before in
+    let a = c5 .before .before .args in
+    let d = c5 .decode-any .ensures in
+    not-in-map (now (a .lengths)) (now (a .bytes)) (d .0) (λ k. c5 .before .shared-slice-known .given k .fits)
+    (ap decodingNumber (sym (d .1)) ∙ sym (c3 .before .decoding-number .ensures) ∙ c3 .if1 .left)
+    (ap decodingNumber (sym (c .before .before .decode .ensures)) ∙ sym (c .before .decoding-number2 .ensures) ∙ c .if2 .taken))
+    (λ c.
+    let c5 = c .before .before .before .before .before in
+    let a = c5 .before .before .args in
+    let d = c5 .decode-any .ensures in
+    d .1 ∙ in-map (now (a .lengths)) (now (a .bytes)) (d .0)
+    (λ z. c .if2 .left (c .before .decoding-number2 .ensures ∙ ap decodingNumber (c .before .before .decode .ensures) ∙ z))))

@@ -9,8 +9,8 @@ returns : tie.Need-returns
 returns c =
     let c2 = c .before .before in
     let c3 = c2 .before in
-    rw (← c3 .before .decode .ensures)
-    (c .decoding-number .ensures, (c3 .text-cells .ensures, ap (λ n. n ∷ []) (c2 .decoded-length .ensures)))
+    rw (← c3 .before .before .decode .ensures)
+    (c .decoding-number .ensures, (c3 .put-text .ensures, ap (λ n. n ∷ []) (c2 .decoded-length .ensures)))
 
 pub gate-decode-spec : {M : Type 1} → statement M
 gate-decode-spec =

@@ -4,11 +4,8 @@ use mathlib.Core.Path.{_≡_, sym, ap, _∙_}
 use native.Mathlib.Omega.{arith}
 use denote.Ref.{now}
 use Rattle.stm8.specs.declared.Decoded.the-variants.{Found}
-use Rattle.image.specs.Image.{codeOf}
 use Rattle.code.specs.Code.{instructionAt, decodedAt}
-use Rattle.code.proofs.Sets.{decoded-at}
 use Rattle.decode_pass.specs.Pass.{Given}
-use Rattle.decode_pass.proofs.Lengths.{found-below}
 use Rattle.decode_pass.proofs.DecodePass.{number-some, start-undecoded, start-off, start-stored}
 use borrow.Author.Needs.{needs}
 use Rattle.decode_pass.proofs.decoding.decode_start.Statement.{statement}
@@ -25,8 +22,7 @@ answer : (c : tie.After-decode-at) →
 answer c given =
     let s = c .before .before in
     let image = now (s .args .image) in
-    c .decode-at .ensures ∙
-    decoded-at image (λ k. omega (arith, c .before .shared-slice-known .given k)) _ (given .own) (s .args .r .end) (s .args .at) ∙
+    c .decode-at .ensures .0 (given .own) ∙
     ap (λ n. decodedAt image n (s .args .at)) (given .routine .end-is)
 
 returns : tie.Need-returns
@@ -52,8 +48,8 @@ ends : (c : tie.After-effect-of) →
 ends c =
     let d = c .before .before .before .before in
     let s = d .before .before in
-    found-below (now (s .args .lengths)) (codeOf (now (s .args .image))) (s .args .r .end) (s .args .at) (s .pre .high)
-    (sym (d .decode-at .ensures) ∙ c .before .before .d .given .1)
+    let bytes = d .decode-at .ensures .1 _ _ (c .before .before .d .given .1) in
+    (omega (arith, bytes .0), bytes .1)
 
 returns-2 : tie.Need-returns-2
 returns-2 c =

@@ -1,39 +1,43 @@
 -- `decoder::pages::after_72` meets its contract.
+use native.Mathlib.Omega.{arith}
 use denote.Ref.{now}
-use borrow.Author.Tests.{le-leb}
+use borrow.Author.Needs.{needs}
+use Rattle.numbers.specs.Lists.{Bytes}
 use Rattle.stm8.specs.OpcodeMap.{After72}
-use Rattle.decoder.specs.Parts.{decodedAs, byTable}
-use Rattle.decoder.proofs.Lengths.{outside, cut-short, whole}
+use Rattle.decoder.specs.Parts.{onPage}
+use Rattle.decoder.proofs.Operands.{high-at, low-at, first-at, second-at}
+use Rattle.decoder.proofs.Sizes.{no-opcode, outside, cut-short, whole}
 use Rattle.decoder.proofs.pages.after_72.Statement.{statement}
 use Rattle.decoder.proofs.pages.after_72.Tie as tie
 
 pub after-72-spec : {M : Type 1} → statement M
-unfolding decodedAs byTable
+unfolding onPage
 after-72-spec =
     tie.close
     (tie.spec
-    (λ c. rw (le-leb _ _ (c .if1 .taken)))
-    (λ c κs. tt)
-    (λ c κs. tt)
+    (λ c. no-opcode After72 (now (c .before .before .args .bytes)) (c .before .before .args .length) (omega (arith, c .if1 .taken)))
+    (λ c.
+    let a = c .before .before .before .args in
+    outside After72 (now (a .bytes)) (a .length) (omega (arith, c .before .if1 .left)) (c .if2 .taken))
     (λ c.
     let c2 = c .before .before in
-    let c4 = c2 .before .before in
-    outside After72 (now (c4 .before .args .bytes)) (now (c4 .before .args .lengths)) (c2 .before .if1 .left) (c2 .byte-at .ensures)
-    (c .before .opcode-length .ensures) (c .if2 .taken))
+    let a = c2 .before .before .args in
+    cut-short After72 (now (a .bytes)) (a .length) (omega (arith, c2 .if1 .left)) (c .before .if2 .left) (c .if3 .taken))
+    (λ c κs. search needs)
+    (λ c κs. search needs)
+    (λ c κs. search needs)
+    (λ c κs. search needs)
+    (λ c κs. search needs)
+    (λ c κs. search needs)
     (λ c.
-    let c2 = c .before .before in
-    let c4 = c2 .before .before in
-    cut-short After72 (now (c4 .before .before .args .bytes)) (now (c4 .before .before .args .lengths)) (c4 .if1 .left)
-    (c2 .before .byte-at .ensures) (c2 .opcode-length .ensures) (c .before .if2 .left) (c .if3 .taken))
-    (λ c κs. tt)
-    (λ c κs. tt)
-    (λ c κs. tt)
-    (λ c κs. tt)
-    (λ c.
-    let c2 = c .before .before in
-    let c4 = c2 .before .before in
-    let c7 = c4 .before .before .before in
-    let s = c7 .before .before .before .args in
-    rw (c .after-72-entry .ensures, c .before .byte-at4 .ensures, c2 .byte-at3 .ensures, c2 .before .byte-at2 .ensures, c7 .byte-at .ensures)
-    (whole After72 (now (s .bytes)) (now (s .lengths)) (c7 .before .if1 .left) (c7 .byte-at .ensures)
-    (c4 .before .before .opcode-length .ensures) (c4 .before .if2 .left) (c4 .if3 .left))))
+    let c5 = c .before .before .before .before .before in
+    let c8 = c5 .before .before .before in
+    let a = c8 .before .before .args in
+    let s = now (a .bytes) in
+    let bytes : Bytes s = λ k. c8 .before .shared-slice-known .given k .fits in
+    let ab = first-at s bytes 2 (c5 .two-words .ensures) (c .before .before .before .first-word .ensures) in
+    let cd = second-at s bytes 2 (c5 .two-words .ensures) (c .before .before .second-word .ensures) in
+    whole After72 s (a .length) (omega (arith, c8 .if1 .left)) (c5 .before .before .if2 .left) (c5 .before .if3 .left)
+    (c .after-72-instruction .result)
+    (rw (c .before .before .before .before .byte-at .ensures, high-at s bytes 2 ab, low-at s bytes 2 ab, c .before .high .ensures, high-at s bytes 4 cd) at
+    (c .after-72-instruction .ensures))))

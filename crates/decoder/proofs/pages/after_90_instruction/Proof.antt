@@ -1,6 +1,8 @@
 -- `decoder::pages::after_90_instruction` meets its contract.
 use mathlib.Core.Path.{refl}
 use mathlib.Core.List.{[], _∷_}
+use Rattle.numbers.specs.Words.{high, low}
+use Rattle.numbers.proofs.WordLaws.{word-high-low}
 use Rattle.stm8.specs.OpcodeMap.{indexedRow, after90Page}
 use Rattle.stm8.specs.declared.Register.the-variants.{Y}
 use Rattle.stm8.specs.declared.Offset.the-variants.{Zero}
@@ -26,17 +28,17 @@ after-90-instruction-spec =
     (λ c κs. tt)
     (λ c κs. tt)
     (λ c κs. tt)
-    (λ c. rw (c .before .match .keys1, ← c .before .before .word .ensures) (c .bit-row .ensures))
-    (λ c. let s = c .before .before .before .args in rw (c .before .match .keys2) (c .row-90-4 .ensures (s .op)))
+    (λ c. rw (c .before .match .keys1, word-high-low (c .before .before .args .ab)) (c .bit-row .ensures))
+    (λ c. rw (c .before .match .keys2) (c .row-90-4 .ensures (c .before .before .args .op)))
     (λ c. rw (c .before .match .keys3) (c .register-row-5 .ensures))
     (λ c. rw (c .before .match .keys4) (c .register-row-8 .ensures))
     (λ c. rw (c .before .match .keys5) (c .register-row-9 .ensures))
-    (λ c. rw (c .before .match .keys6, ← c .before .before .word .ensures) (c .row-90-a .ensures))
-    (λ c. rw (c .before .match .keys7, ← c .before .before .word .ensures) (c .row-90-c .ensures))
-    (λ c. rw (c .before .match .keys8, ← c .before .before .word .ensures) (c .long-offset-row .ensures))
-    (λ c. rw (c .before .match .keys9) (c .short-offset-row .ensures))
+    (λ c. rw (c .before .match .keys6, word-high-low (c .before .before .args .ab)) (c .row-90-a .ensures))
+    (λ c. rw (c .before .match .keys7, word-high-low (c .before .before .args .ab)) (c .row-90-c .ensures))
+    (λ c. rw (c .before .match .keys8, word-high-low (c .before .before .args .ab)) (c .long-offset-row .ensures))
+    (λ c. rw (c .before .before .match .keys9, ← c .before .high .ensures) (c .short-offset-row .ensures))
     (λ c.
     let c2 = c .before .before in
-    let s = c2 .before .args in
-    last-row 15 (indexedRow (Indexed Y Zero)) (after90Page (s .a) (s .b)) (14 ∷ 13 ∷ 12 ∷ 10 ∷ 9 ∷ 8 ∷ 5 ∷ 4 ∷ 1 ∷ []) refl (s .op) _
-    (c2 .before .fits .op .fits) (c .before .match .rest) (c .no-offset-row .ensures)))
+    let s = c2 .args in
+    last-row 15 (indexedRow (Indexed Y Zero)) (after90Page (high (s .ab)) (low (s .ab))) (14 ∷ 13 ∷ 12 ∷ 10 ∷ 9 ∷ 8 ∷ 5 ∷ 4 ∷ 1 ∷ []) refl
+    (s .op) _ (c2 .fits .op .fits) (c .before .match .rest) (c .no-offset-row .ensures)))

@@ -1,51 +1,42 @@
 -- `listing::lines::push_decoded` meets its contract.
-use Prim.Native.Nat.{ℕ, _-_}
+use Prim.Native.Nat.{ℕ}
 use mathlib.Core.Path.{_≡_, ap, sym, _∙_}
 use mathlib.Core.List.{List}
-use lib.ListN.{take, drop}
 use borrow.Author.Needs.{needs}
 use denote.Ref.{now}
-use Rattle.numbers.specs.Lists.{Bytes}
-use Rattle.stm8.specs.Decoding.{decodedBy}
 use Rattle.stm8.specs.declared.Decoded.{Decoded}
-use Rattle.image.specs.Image.{versionOf, codeOf, sizeOf}
+use Rattle.image.specs.Image.{sizeOf}
 use Rattle.code.specs.Code.{decodedAt, instructionIn}
-use Rattle.code.specs.Set.{lengthsFor}
-use Rattle.code.proofs.Sets.{decoded-at}
 use Rattle.listing.proofs.Appending.{wrote-none}
 use Rattle.listing.proofs.lines.push_decoded.Statement.{statement}
 use Rattle.listing.proofs.lines.push_decoded.Tie as tie
 
 -- what is decoded stands at the offset
-stands : (image : List ℕ) (tables : List (List ℕ)) (size offset : ℕ) {d d′ : Decoded} → Bytes image →
-    (tables ≡ lengthsFor (versionOf image)) → size ≡ sizeOf image →
-    d ≡ decodedBy tables (take (size - offset) (drop offset (codeOf image))) → d ≡ d′ → instructionIn image offset ≡ d′
-stands image tables size offset bytes own whole e is =
-    ap (λ n. decodedAt image n offset) (sym whole) ∙ sym (decoded-at image bytes tables own size offset) ∙ sym e ∙ is
+stands : (image : List ℕ) (size offset : ℕ) {d d′ : Decoded} → size ≡ sizeOf image → d ≡ decodedAt image size offset → d ≡ d′ →
+    instructionIn image offset ≡ d′
+stands image size offset whole e is = ap (λ n. decodedAt image n offset) (sym whole) ∙ sym e ∙ is
 
 returns : tie.Need-returns
 returns c =
     let c7 = c .before .before .before .before .before .before .before in
     let c10 = c7 .before .before .before in
     let a = c10 .args in
-    let found = stands (now (a .image)) (now (a .lengths)) (a .size) (a .offset) (λ k. c7 .before .shared-slice-known .given k .fits)
-    (c10 .pre .0) (c10 .pre .1) (c7 .decode-at .ensures) (c .before .before .before .before .before .d .given .1) in
+    let found = stands (now (a .image)) (a .size) (a .offset) (c10 .pre .1) (c7 .decode-at .ensures .0 (c10 .pre .0))
+    (c .before .before .before .before .before .d .given .1) in
     rw found (c .before .before .push-text .ensures)
 
 returns-2 : tie.Need-returns-2
 returns-2 c =
     let c5 = c .before .before .before .before .before in
     let a = c5 .args in
-    let found = stands (now (a .image)) (now (a .lengths)) (a .size) (a .offset) (λ k. c .before .before .before .shared-slice-known .given k .fits)
-    (c5 .pre .0) (c5 .pre .1) (c .before .before .decode-at .ensures) (c .enum-told .given .1) in
+    let found = stands (now (a .image)) (a .size) (a .offset) (c5 .pre .1) (c .before .before .decode-at .ensures .0 (c5 .pre .0)) (c .enum-told .given .1) in
     rw found (wrote-none _ _)
 
 returns-3 : tie.Need-returns-3
 returns-3 c =
     let c5 = c .before .before .before .before .before in
     let a = c5 .args in
-    let found = stands (now (a .image)) (now (a .lengths)) (a .size) (a .offset) (λ k. c .before .before .before .shared-slice-known .given k .fits)
-    (c5 .pre .0) (c5 .pre .1) (c .before .before .decode-at .ensures) (c .enum-told2 .given .1) in
+    let found = stands (now (a .image)) (a .size) (a .offset) (c5 .pre .1) (c .before .before .decode-at .ensures .0 (c5 .pre .0)) (c .enum-told2 .given .1) in
     rw found (wrote-none _ _)
 
 pub push-decoded-spec : {M : Type 1} → statement M

@@ -6,7 +6,6 @@ use borrow.Author.Needs.{needs}
 use Rattle.image.specs.declared.Layout.{Layout}
 use Rattle.image.specs.Image.{layoutOf}
 use Rattle.code.specs.Code.{decodedAt}
-use Rattle.code.proofs.Sets.{decoded-at}
 use Rattle.machine.proofs.StepLaws.{pc-inside}
 use Rattle.machine.proofs.stepping.fetch.Statement.{statement}
 use Rattle.machine.proofs.stepping.fetch.Tie as tie
@@ -17,8 +16,7 @@ returns c =
     let start = c .before .before .before in
     let a = start .args in
     let image = now (a .image) in
-    c .decode-at .ensures ∙
-    decoded-at image (λ k. c .before .before .shared-slice-known .given k .fits) (now (a .lengths)) (start .pre .1 .1) _ _ ∙
+    c .decode-at .ensures .0 (start .pre .1 .1) ∙
     ap (λ (l : Layout). decodedAt image (l .size) (a .pc - l .base)) (start .pre .0 .is)
 
 pub fetch-spec : {M : Type 1} → statement M
