@@ -1,10 +1,7 @@
 // The instructions of the gate set. The op-code map, the bytes of an instruction and its effect stand in specs/.
 mod tables;
 
-pub use tables::after_72_lengths;
-pub use tables::after_90_lengths;
 pub use tables::map_lengths;
-pub use tables::plain_lengths;
 
 // The index registers.
 pub enum Register {

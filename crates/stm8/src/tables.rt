@@ -1,8 +1,7 @@
 // The lengths of the op-codes on their three pages, sixteen to a row by the op-code's high digit, as the manual's map is laid out: 0
 // outside the set, else pre-code, op-code and operand bytes. (The formatter would put one entry on a line.)
 ghost use mathlib.Core.Path.{_≡_};
-ghost use Rattle.stm8.specs.OpcodeMap.{Plain, After72, After90};
-ghost use Rattle.stm8.specs.Decoding.{lengths, mapLengths};
+ghost use Rattle.stm8.specs.Decoding.{mapLengths};
 
 const PLAIN: [u8; 256] = [
     0, 0, 0, 0, 0, 0, 0, 0, 0, 0, 0, 0, 0, 0, 0, 0, // 0_
@@ -61,30 +60,11 @@ const AFTER_90: [u8; 256] = [
     2, 2, 2, 0, 2, 2, 2, 0, 2, 2, 2, 2, 0, 0, 0, 0, // F_
 ];
 
-// The page without pre-code.
-pub fn plain_lengths() -> [u8; 256]
-    ensures { λ r. ⌜ r ≡ lengths Plain ⌝ }
-{
-    PLAIN
-}
+const MAP: [[u8; 256]; 3] = [PLAIN, AFTER_72, AFTER_90];
 
-// The page after 72.
-pub fn after_72_lengths() -> [u8; 256]
-    ensures { λ r. ⌜ r ≡ lengths After72 ⌝ }
-{
-    AFTER_72
-}
-
-// The page after 90.
-pub fn after_90_lengths() -> [u8; 256]
-    ensures { λ r. ⌜ r ≡ lengths After90 ⌝ }
-{
-    AFTER_90
-}
-
-// All three, by page. Whoever decodes much asks for them once and lends them.
+// All three, by page: one array, so that it is copied once. Whoever decodes much asks for it once and lends it.
 pub fn map_lengths() -> [[u8; 256]; 3]
     ensures { λ r. ⌜ r ≡ mapLengths ⌝ }
 {
-    [plain_lengths(), after_72_lengths(), after_90_lengths()]
+    MAP
 }
