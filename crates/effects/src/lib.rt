@@ -1,6 +1,6 @@
 // The effect of an instruction, which the check and the machine share.
 ghost use mathlib.Core.Path.{_≡_};
-ghost use Rattle.stm8.specs.Effects.{relative as relativeTo, bytesWide, placeOf, writesBack, modifyPlace, fallsThrough, jumpFlow, moves as movesOf, goes as goesOf, calls as callsOf, isCall, effect};
+ghost use Rattle.stm8.specs.Effects.{relative as relativeTo, bytesWide, placeOf, writesBack, modifyPlace, fallsThrough, jumpFlow, moves as movesOf, goes as goesOf, calls as callsOf, effect};
 use stm8::Condition;
 use stm8::Effect;
 use stm8::Flow;
@@ -31,20 +31,6 @@ pub fn bytes_wide(w: Width) -> usize
     match w {
         Width::Byte => 1,
         Width::Word => 2,
-    }
-}
-
-// CALL or CALLR.
-pub fn is_call(flow: Flow) -> bool
-    ensures { λ r. ⌜ r ≡ isCall flow ⌝ }
-{
-    match flow {
-        Flow::Next => false,
-        Flow::Branch(_) => false,
-        Flow::Jump(_) => false,
-        Flow::Call(_) => true,
-        Flow::CallRelative(_) => true,
-        Flow::Return => false,
     }
 }
 
