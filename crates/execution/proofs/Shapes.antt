@@ -12,7 +12,8 @@ use Rattle.numbers.proofs.Checking.{first-zero, first-pass, under-zero, under-p
 use Rattle.numbers.proofs.Folding.{first-none}
 use Rattle.stm8.specs.Effects.{relative, bytesWide, isCall, jumpFlow, moves, goes}
 use Rattle.stm8.specs.declared.Condition.{Condition}
-use Rattle.stm8.specs.declared.Condition.the-variants.{Jra, Jrf, Jrugt, Jrule, Jrnc, Jrc, Jrne, Jreq, Jrnv, Jrv, Jrpl, Jrmi, Jrsgt, Jrsle, Jrsge, Jrslt}
+use Rattle.stm8.specs.declared.Condition.the-variants.{Jra, Jrf, Jrugt, Jrule, Jrnc, Jrc, Jrne, Jreq}
+use Rattle.stm8.specs.declared.Condition.the-variants.{Jrnv, Jrv, Jrpl, Jrmi, Jrsgt, Jrsle, Jrsge, Jrslt}
 use Rattle.stm8.specs.declared.Width.{Width}
 use Rattle.stm8.specs.declared.Place.{Place}
 use Rattle.stm8.specs.declared.Place.the-variants.{Nowhere, Pushed}
@@ -20,7 +21,8 @@ use Rattle.stm8.specs.declared.Flow.{Flow}
 use Rattle.stm8.specs.declared.Effect.{Effect}
 use Rattle.byte_operations.specs.Conditions.{holds}
 use Rattle.image.specs.declared.Limits.{Limits}
-use Rattle.execution.specs.Performing.{result, spTrap, moveTrap, storeTrap, callTrap, effectTrap, spAfter, pcAfter, bytesFrom, storedAt, memoryAfter, madeBy}
+use Rattle.execution.specs.Performing.{result, spTrap, moveTrap, storeTrap, callTrap, effectTrap, spAfter}
+use Rattle.execution.specs.Performing.{pcAfter, storedAt, memoryAfter, madeBy}
 use Rattle.execution.specs.Internal.{performedBy, madeWith, Stored}
 use Rattle.execution.specs.declared.Registers.{Registers}
 use Rattle.execution.specs.declared.Computed.{Computed}
@@ -58,7 +60,8 @@ module _ (limits : Limits) (sp : ℕ) where
         let moved = moveTrap limits sp (record { pops = 0; pushes = bytesWide w; place = Pushed w; flow = flow }) in
         ap (first moved) (first-pass (first (callTrap next flow) 0) ∙ first-none (callTrap next flow))
 
-    pub store : (pops : ℕ) (place : Place) → moveTrap limits sp (moves pops 0 place) ≡ 0 → effectTrap limits sp next (moves pops 0 place) ≡ storeTrap limits sp place
+    pub store : (pops : ℕ) (place : Place) → moveTrap limits sp (moves pops 0 place) ≡ 0 →
+        effectTrap limits sp next (moves pops 0 place) ≡ storeTrap limits sp place
     unfolding effectTrap firstIn callTrap
     store pops place none =
         rw none (first-pass _ ∙ ap (first (storeTrap limits sp place)) (first-pass 0) ∙ first-none (storeTrap limits sp place))
@@ -75,8 +78,10 @@ module _ (image : List ℕ) (limits : Limits) (regs : Registers) (memory : List 
   unfolding performedBy
   trapped trap is some = rw (is, ne-eqb trap 0 some)
 
-  pub made : effectTrap limits (regs .sp) next e ≡ 0 → (sp pc : ℕ) → spAfter (regs .sp) e ≡ sp → pcAfter image memory (regs .sp) next (c .taken) (e .flow) ≡ pc →
-      performedBy image limits regs memory next c e ≡ (madeWith c sp pc, memoryAfter memory (storedAt (regs .sp) (spAfter (regs .sp) e) (e .place)) (c .stored))
+  pub made : effectTrap limits (regs .sp) next e ≡ 0 → (sp pc : ℕ) → spAfter (regs .sp) e ≡ sp →
+      pcAfter image memory (regs .sp) next (c .taken) (e .flow) ≡ pc →
+      performedBy image limits regs memory next c e ≡
+      (madeWith c sp pc, memoryAfter memory (storedAt (regs .sp) (spAfter (regs .sp) e) (e .place)) (c .stored))
   unfolding performedBy
   made none sp pc p q = rw (none, p, q)
 

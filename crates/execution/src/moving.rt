@@ -153,8 +153,9 @@ impl Registers {
 
     // Nothing moves but PC, and SP is in its range: no trap.
     pub(crate) fn goes(self, c: Computed, pc: u32) -> Stepped
-        ensures { λ r. ⌜ ((image memory : List ℕ) (limits : Limits) (next : ℕ) (flow : Flow) → spTrap limits (self .sp) ≡ 0 → isCall flow ≡ false →
-            pc ≡ pcAfter image memory (self .sp) next (c .taken) flow → performedBy image limits self memory next c (goesOf flow) ≡ (r, memory)) ⌝ }
+        ensures { λ r. ⌜ ((image memory : List ℕ) (limits : Limits) (next : ℕ) (flow : Flow) →
+            spTrap limits (self .sp) ≡ 0 → isCall flow ≡ false → pc ≡ pcAfter image memory (self .sp) next (c .taken) flow →
+            performedBy image limits self memory next c (goesOf flow) ≡ (r, memory)) ⌝ }
     {
         c.made(self.sp, pc)
     }
@@ -210,7 +211,8 @@ impl Registers {
     // A store was tried, with SP already moved: its trap, or the instruction is made.
     pub(crate) fn stores(self, c: Computed, trap: u8, sp: u16, next: u32) -> Stepped
         ensures { λ r. ⌜ ((image memory memory′ : List ℕ) (limits : Limits) (pops : ℕ) (place : Place) →
-            moveTrap limits (self .sp) (movesOf pops 0 place) ≡ 0 → sp ≡ self .sp + pops → Stored limits (self .sp) place (c .stored) memory trap memory′ →
+            moveTrap limits (self .sp) (movesOf pops 0 place) ≡ 0 → sp ≡ self .sp + pops →
+            Stored limits (self .sp) place (c .stored) memory trap memory′ →
             performedBy image limits self memory next c (movesOf pops 0 place) ≡ (r, memory′)) ⌝ }
     {
         if trap != 0 {

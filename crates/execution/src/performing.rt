@@ -2,7 +2,8 @@
 ghost use mathlib.Core.Path.{_≡_};
 ghost use mathlib.Core.List.{List};
 ghost use Prim.Native.Nat.{ℕ, _<_};
-ghost use Rattle.stm8.specs.declared.Instruction.the-variants.{Alu, Store, Modify, LoadWord, StoreWord, Popw, Bit, BitJump, Mov, Push, Pop, Call, Callr, Ret};
+ghost use Rattle.stm8.specs.declared.Instruction.the-variants.{Alu, Store, Modify, LoadWord, StoreWord, Popw, Bit, BitJump};
+ghost use Rattle.stm8.specs.declared.Instruction.the-variants.{Mov, Push, Pop, Call, Callr, Ret};
 ghost use Rattle.execution.specs.Performing.{spTrap, performed};
 use crate::Registers;
 use crate::Stepped;
@@ -33,13 +34,15 @@ impl Registers {
         x: Operand,
         next: u32,
     ) -> Stepped
-        ensures { λ r. ⌜ (spTrap limits (self .sp) ≡ 0 → performed (now (image .entry)) limits self (now (memory .entry)) next (Alu o x) ≡ (r, now (memory .entry))) ⌝ }
+        ensures { λ r. ⌜ (spTrap limits (self .sp) ≡ 0 →
+            performed (now (image .entry)) limits self (now (memory .entry)) next (Alu o x) ≡ (r, now (memory .entry))) ⌝ }
     {
         self.goes(self.alu(o, self.operand_byte(image, memory, x)), next)
     }
 
     fn perform_store(self, limits: Limits, memory: &mut [u8], x: Operand, next: u32) -> Stepped
-        ensures { λ r. ⌜ ((image : List ℕ) → spTrap limits (self .sp) ≡ 0 → performed image limits self (now (memory .entry)) next (Store x) ≡ (r, now (memory .exit))) ⌝ }
+        ensures { λ r. ⌜ ((image : List ℕ) → spTrap limits (self .sp) ≡ 0 →
+            performed image limits self (now (memory .entry)) next (Store x) ≡ (r, now (memory .exit))) ⌝ }
     {
         let c = self.store_a();
         let trap = put_operand(limits, memory, self.sp, x, Width::Byte, c.stored);
@@ -55,7 +58,8 @@ impl Registers {
         x: Operand,
         next: u32,
     ) -> Stepped
-        ensures { λ r. ⌜ (spTrap limits (self .sp) ≡ 0 → performed (now (image .entry)) limits self (now (memory .entry)) next (Modify o x) ≡ (r, now (memory .exit))) ⌝ }
+        ensures { λ r. ⌜ (spTrap limits (self .sp) ≡ 0 →
+            performed (now (image .entry)) limits self (now (memory .entry)) next (Modify o x) ≡ (r, now (memory .exit))) ⌝ }
     {
         let c = self.modify(o, x, self.operand_byte(image, memory, x));
         if writes_back(o) {
@@ -74,7 +78,8 @@ impl Registers {
         x: Operand,
         next: u32,
     ) -> Stepped
-        ensures { λ s. ⌜ (spTrap limits (self .sp) ≡ 0 → performed (now (image .entry)) limits self (now (memory .entry)) next (LoadWord r x) ≡ (s, now (memory .entry))) ⌝ }
+        ensures { λ s. ⌜ (spTrap limits (self .sp) ≡ 0 →
+            performed (now (image .entry)) limits self (now (memory .entry)) next (LoadWord r x) ≡ (s, now (memory .entry))) ⌝ }
     {
         self.goes(self.load_word(r, self.operand_word(image, memory, x)), next)
     }
@@ -87,7 +92,8 @@ impl Registers {
         x: Operand,
         next: u32,
     ) -> Stepped
-        ensures { λ s. ⌜ ((image : List ℕ) → spTrap limits (self .sp) ≡ 0 → performed image limits self (now (memory .entry)) next (StoreWord r x) ≡ (s, now (memory .exit))) ⌝ }
+        ensures { λ s. ⌜ ((image : List ℕ) → spTrap limits (self .sp) ≡ 0 →
+            performed image limits self (now (memory .entry)) next (StoreWord r x) ≡ (s, now (memory .exit))) ⌝ }
     {
         let c = self.store_word(r);
         let trap = put_operand(limits, memory, self.sp, x, Width::Word, c.stored);
@@ -118,7 +124,8 @@ impl Registers {
         a: u16,
         next: u32,
     ) -> Stepped
-        ensures { λ r. ⌜ (spTrap limits (self .sp) ≡ 0 → performed (now (image .entry)) limits self (now (memory .entry)) next (Bit o n a) ≡ (r, now (memory .exit))) ⌝ }
+        ensures { λ r. ⌜ (spTrap limits (self .sp) ≡ 0 →
+            performed (now (image .entry)) limits self (now (memory .entry)) next (Bit o n a) ≡ (r, now (memory .exit))) ⌝ }
     {
         let c = self.bit(o, n, read_byte(image, memory, a as u32));
         let trap = put_direct(limits, memory, a, Width::Byte, c.stored);
@@ -137,7 +144,8 @@ impl Registers {
         next: u32,
     ) -> Stepped
         requires { ⌜ next < 0x1000000 ⌝ }
-        ensures { λ r. ⌜ (spTrap limits (self .sp) ≡ 0 → performed (now (image .entry)) limits self (now (memory .entry)) next (BitJump o n a offset) ≡ (r, now (memory .entry))) ⌝ }
+        ensures { λ r. ⌜ (spTrap limits (self .sp) ≡ 0 →
+            performed (now (image .entry)) limits self (now (memory .entry)) next (BitJump o n a offset) ≡ (r, now (memory .entry))) ⌝ }
     {
         self.jumps(
             self.bit_jump(o, n, read_byte(image, memory, a as u32)),
@@ -155,7 +163,8 @@ impl Registers {
         from: Operand,
         next: u32,
     ) -> Stepped
-        ensures { λ r. ⌜ (spTrap limits (self .sp) ≡ 0 → performed (now (image .entry)) limits self (now (memory .entry)) next (Mov to from) ≡ (r, now (memory .exit))) ⌝ }
+        ensures { λ r. ⌜ (spTrap limits (self .sp) ≡ 0 →
+            performed (now (image .entry)) limits self (now (memory .entry)) next (Mov to from) ≡ (r, now (memory .exit))) ⌝ }
     {
         let c = self.storing_byte(self.operand_byte(image, memory, from));
         let trap = put_operand(limits, memory, self.sp, to, Width::Byte, c.stored);

@@ -17,7 +17,8 @@ use stm8::Width;
 
 // 24, SP would leave its range.
 pub(crate) fn move_trap(limits: Limits, sp: u16, pops: u8, pushes: u8) -> u8
-    ensures { λ r. ⌜ ((place : Place) (flow : Flow) → r ≡ moveTrap limits sp (record { pops = pops; pushes = pushes; place = place; flow = flow })) ⌝ }
+    ensures { λ r. ⌜ ((place : Place) (flow : Flow) →
+        r ≡ moveTrap limits sp (record { pops = pops; pushes = pushes; place = place; flow = flow })) ⌝ }
 {
     let stack = limits.stack;
     let popped = sp as usize + pops as usize;

@@ -23,4 +23,5 @@ perform-bit-spec =
     (λ c inside.
     let a = c .before .before .before .before .before .before .before .before .before .before .args in
     rw (c .before .before .before .before .before .bit .ensures, c .before .before .before .before .before .before .read-byte .ensures) at
-    (c .stores .ensures (now (a .image)) (now (a .memory)) _ (a .limits) 0 _ (in-range (a .limits) (a .self .sp) inside _ Next) (omega arith) (c .before .before .before .put-direct .ensures (a .self .sp)))))
+    (c .stores .ensures (now (a .image)) (now (a .memory)) _ (a .limits) 0 _ (in-range (a .limits) (a .self .sp) inside _ Next) (omega arith)
+    (c .before .before .before .put-direct .ensures (a .self .sp)))))

@@ -21,4 +21,5 @@ perform-call-spec =
     (λ c image.
     let a = c .before .before .before .before .before .before .before .args in
     rw (c .before .before .before .before .before .storing .ensures) at
-    (c .before .before .pushes .ensures image (a .next) (Call (a .a)) (c .before .before .before .call-trap .ensures) refl)))
+    (c .before .before .pushes .ensures image (a .next) (Call (a .a))
+    (c .before .before .before .call-trap .ensures) refl)))

@@ -21,4 +21,5 @@ perform-callr-spec =
     (λ c image.
     let a = c .before .before .before .before .before .before .before .before .args in
     rw (c .before .before .before .before .before .before .storing .ensures) at
-    (c .before .before .pushes .ensures image (a .next) (CallRelative (a .offset)) (c .before .before .before .call-trap .ensures) (c .before .before .before .before .target .ensures))))
+    (c .before .before .pushes .ensures image (a .next) (CallRelative (a .offset))
+    (c .before .before .before .call-trap .ensures) (c .before .before .before .before .target .ensures))))

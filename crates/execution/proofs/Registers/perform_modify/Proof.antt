@@ -25,12 +25,19 @@ perform-modify-spec =
     (λ c inside.
     let a = c .before .before .before .before .before .before .before .before .before .before .before .before .args in
     rw (← c .before .before .before .before .before .before .writes-back .ensures, c .before .before .before .before .before .if1 .taken)
-    (rw (c .before .before .before .before .before .before .before .modify .ensures, c .before .before .before .before .before .before .before .before .operand-byte .ensures) at
-    (c .stores .ensures (now (a .image)) (now (a .memory)) _ (a .limits) 0 _ (in-range (a .limits) (a .self .sp) inside _ Next) (omega arith) (c .before .before .before .put-operand .ensures))))
+    (rw (
+      c .before .before .before .before .before .before .before .modify .ensures,
+      c .before .before .before .before .before .before .before .before .operand-byte .ensures,
+    ) at
+    (c .stores .ensures (now (a .image)) (now (a .memory)) _ (a .limits) 0 _ (in-range (a .limits) (a .self .sp) inside _ Next) (omega arith)
+    (c .before .before .before .put-operand .ensures))))
     (λ c κs. tt)
     (λ c. search needs)
     (λ c inside.
     let a = c .before .before .before .before .before .before .before .before .args in
     rw (← c .before .before .writes-back .ensures, c .before .if1 .left)
-    (rw (c .before .before .before .modify .ensures, c .before .before .before .before .operand-byte .ensures) at
+    (rw (
+      c .before .before .before .modify .ensures,
+      c .before .before .before .before .operand-byte .ensures,
+    ) at
     (c .goes .ensures (now (a .image)) (now (a .memory)) (a .limits) (a .next) Next inside refl refl))))

@@ -23,4 +23,5 @@ perform-mov-spec =
     (λ c inside.
     let a = c .before .before .before .before .before .before .before .before .before .before .args in
     rw (c .before .before .before .before .before .storing-byte .ensures, c .before .before .before .before .before .before .operand-byte .ensures) at
-    (c .stores .ensures (now (a .image)) (now (a .memory)) _ (a .limits) 0 _ (in-range (a .limits) (a .self .sp) inside _ Next) (omega arith) (c .before .before .before .put-operand .ensures))))
+    (c .stores .ensures (now (a .image)) (now (a .memory)) _ (a .limits) 0 _ (in-range (a .limits) (a .self .sp) inside _ Next) (omega arith)
+    (c .before .before .before .put-operand .ensures))))
