@@ -21,9 +21,12 @@ use Rattle.stm8.specs.declared.Flow.{Flow}
 use Rattle.stm8.specs.declared.Effect.{Effect}
 use Rattle.byte_operations.specs.Conditions.{holds}
 use Rattle.image.specs.declared.Limits.{Limits}
-use Rattle.execution.specs.Performing.{result, spTrap, moveTrap, storeTrap, callTrap, effectTrap, spAfter}
-use Rattle.execution.specs.Performing.{pcAfter, storedAt, memoryAfter, madeBy}
-use Rattle.execution.specs.Internal.{performedBy, madeWith, Stored}
+use Rattle.storage.specs.Storing.{spTrap, moveTrap, storeTrap, callTrap}
+use Rattle.execution.specs.Performing.{result, effectTrap, spAfter}
+use Rattle.storage.specs.Storing.{storedAt, memoryAfter}
+use Rattle.execution.specs.Performing.{pcAfter, madeBy}
+use Rattle.storage.specs.Storing.{Stored}
+use Rattle.execution.specs.Internal.{performedBy, madeWith}
 use Rattle.execution.specs.declared.Registers.{Registers}
 use Rattle.execution.specs.declared.Computed.{Computed}
 use Rattle.execution.specs.declared.StepAnswer.the-variants.{Trap}
@@ -84,11 +87,6 @@ module _ (image : List ℕ) (limits : Limits) (regs : Registers) (memory : List 
       (madeWith c sp pc, memoryAfter memory (storedAt (regs .sp) (spAfter (regs .sp) e) (e .place)) (c .stored))
   unfolding performedBy
   made none sp pc p q = rw (none, p, q)
-
--- a store to no place
-pub nothing-stored : (limits : Limits) (sp value : ℕ) (memory : List ℕ) → Stored limits sp Nowhere value memory 0 memory
-unfolding storeTrap storedAt memoryAfter
-nothing-stored limits sp value memory = record { is = refl; after = λ sp′. refl }
 
 -- a jump goes where its condition holds; that of JRA, which has no other way, always does
 pub jump-flow : (image memory : List ℕ) (sp next cc offset : ℕ) (o : Condition) →

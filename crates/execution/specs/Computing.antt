@@ -22,7 +22,8 @@ use Rattle.byte_operations.specs.FlagOperations.{flagResult}
 use Rattle.byte_operations.specs.Conditions.{holds}
 use Rattle.index_operations.specs.declared.WordResult.{WordResult}
 use Rattle.index_operations.specs.Words.{ldwResult, wordAluResult, wordModifyResult, mulResult}
-use Rattle.execution.specs.Reading.{readByte, readWord, indexOf, byteOf, wordOf}
+use Rattle.storage.specs.Reading.{readByte, readWord}
+use Rattle.execution.specs.Operands.{indexOf, byteOf, wordOf}
 use Rattle.execution.specs.declared.Registers.{Registers}
 use Rattle.execution.specs.declared.Computed.{Computed}
 

@@ -1,13 +1,11 @@
 -- What the private functions of the crate ask of each other. No public contract cites it.
 use Prim.Native.Nat.{ℕ}
-use mathlib.Core.Path.{_≡_}
 use mathlib.Core.Bool.{cond}
 use mathlib.Core.List.{List}
 use lib.Dec.{eqb}
-use Rattle.stm8.specs.declared.Place.{Place}
 use Rattle.stm8.specs.declared.Effect.{Effect}
 use Rattle.image.specs.declared.Limits.{Limits}
-use Rattle.execution.specs.Performing.{Result, result, storeTrap, effectTrap, storedAt, memoryAfter, madeBy}
+use Rattle.execution.specs.Performing.{Result, result, effectTrap, madeBy}
 use Rattle.execution.specs.declared.Registers.{Registers}
 use Rattle.execution.specs.declared.Computed.{Computed}
 use Rattle.execution.specs.declared.StepAnswer.the-variants.{Made, Trap}
@@ -22,8 +20,3 @@ performedBy image limits regs memory next c e =
 -- what was computed, with SP and PC
 abbrev pub madeWith : Computed → ℕ → ℕ → Stepped
 madeWith c sp pc = record { answer = Made; registers = record { a = c .a; x = c .x; y = c .y; cc = c .cc; sp = sp; pc = pc } }
-
--- a store that was tried, at a place that is not pushed: its trap, and memory, which holds the value where there is none
-pub record Stored (limits : Limits) (sp : ℕ) (place : Place) (value : ℕ) (memory : List ℕ) (trap : ℕ) (memory′ : List ℕ) : Type 0 where
-  pub is : trap ≡ storeTrap limits sp place
-  pub after : (sp′ : ℕ) → memory′ ≡ cond (eqb trap 0) (memoryAfter memory (storedAt sp sp′ place) value) memory

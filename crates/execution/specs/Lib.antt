@@ -1,4 +1,4 @@
-pub mod Reading
+pub mod Operands
 pub mod Computing
 pub mod Performing
 pub mod Internal

@@ -3,9 +3,7 @@ mod moving;
 mod operands;
 mod operations;
 mod performing;
-mod reading;
 mod results;
-mod traps;
 
 // Document 01 gives PC 24 bits; it is held in 32, and a larger value is in no code. The order leaves no gap between the registers, so that the
 // compiler keeps each in a register of its own from step to step.

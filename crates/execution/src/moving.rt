@@ -10,88 +10,23 @@ ghost use Rattle.stm8.specs.declared.Place.{Place};
 ghost use Rattle.stm8.specs.declared.Place.the-variants.{Nowhere, Direct, OnStack, Pushed};
 ghost use Rattle.stm8.specs.declared.Flow.{Flow};
 ghost use Rattle.image.specs.declared.Limits.{Limits};
-ghost use Rattle.execution.specs.Performing.{spTrap, moveTrap, callTrap, pcAfter, bytesFrom, memoryAfter};
-ghost use Rattle.execution.specs.Internal.{performedBy, madeWith, Stored};
+ghost use Rattle.storage.specs.Storing.{spTrap, moveTrap, callTrap, bytesFrom, memoryAfter};
+ghost use Rattle.execution.specs.Performing.{pcAfter};
+ghost use Rattle.storage.specs.Storing.{Stored};
+ghost use Rattle.execution.specs.Internal.{performedBy, madeWith};
 use crate::Computed;
 use crate::Registers;
 use crate::StepAnswer;
 use crate::Stepped;
-use crate::traps::direct_trap;
-use crate::traps::move_trap;
-use crate::traps::stack_trap;
 use effects::bytes_wide;
 use effects::relative;
 use image::Limits;
 use numbers::checks::first;
-use numbers::words::high;
-use numbers::words::low;
-use numbers::words::put_byte;
 use stm8::Operand;
 use stm8::Width;
-
-// A value's low byte, or both bytes, the high byte lower.
-fn put(memory: &mut [u8], at: u32, w: Width, value: u16)
-    ensures { λ _. ⌜ now (memory .exit) ≡ memoryAfter (now (memory .entry)) (bytesFrom at w) value ⌝ }
-{
-    match w {
-        Width::Byte => put_byte(memory, at as usize, low(value)),
-        Width::Word => {
-            let first = high(value);
-            let second = low(value);
-            put_byte(memory, at as usize, first);
-            put_byte(memory, at as usize + 1, second);
-        }
-    }
-}
-
-// The same, unless a trap is due: that trap.
-fn put_unless(trap: u8, memory: &mut [u8], at: u32, w: Width, value: u16) -> u8
-    ensures { λ r. ⌜ r ≡ trap ⌝ }
-    ensures { λ _. ⌜ now (memory .exit) ≡ cond (eqb trap 0) (memoryAfter (now (memory .entry)) (bytesFrom at w) value) (now (memory .entry)) ⌝ }
-{
-    if trap == 0 {
-        put(memory, at, w, value);
-    }
-    trap
-}
-
-// A store at an address, or 25.
-pub(crate) fn put_direct(limits: Limits, memory: &mut [u8], a: u16, w: Width, value: u16) -> u8
-    ensures { λ r. ⌜ ((sp : ℕ) → Stored limits sp (Direct a w) value (now (memory .entry)) r (now (memory .exit))) ⌝ }
-{
-    let trap = direct_trap(limits, a, w);
-    put_unless(trap, memory, a as u32, w, value)
-}
-
-// A store at an offset from SP, or 25.
-fn put_on_stack(limits: Limits, memory: &mut [u8], sp: u16, f: u8, w: Width, value: u16) -> u8
-    ensures { λ r. ⌜ Stored limits sp (OnStack f w) value (now (memory .entry)) r (now (memory .exit)) ⌝ }
-{
-    let trap = stack_trap(limits, sp, f, w);
-    put_unless(trap, memory, sp as u32 + f as u32, w, value)
-}
-
-// A store to an operand, or 25.
-pub(crate) fn put_operand(
-    limits: Limits,
-    memory: &mut [u8],
-    sp: u16,
-    x: Operand,
-    w: Width,
-    value: u16,
-) -> u8
-    ensures { λ r. ⌜ Stored limits sp (placeOf x w) value (now (memory .entry)) r (now (memory .exit)) ⌝ }
-{
-    match x {
-        Operand::Accumulator => 0,
-        Operand::Immediate(_) => 0,
-        Operand::ImmediateWord(_) => 0,
-        Operand::Short(a) => put_direct(limits, memory, a as u16, w, value),
-        Operand::Long(a) => put_direct(limits, memory, a, w, value),
-        Operand::Indexed(_, _) => 0,
-        Operand::Sp(f) => put_on_stack(limits, memory, sp, f, w, value),
-    }
-}
+use storage::move_trap;
+use storage::put;
+use storage::put_operand;
 
 // Where a relative jump or call from the next address goes.
 pub(crate) fn target(next: u32, offset: u8) -> u32

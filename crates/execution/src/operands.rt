@@ -1,12 +1,12 @@
 // The operands of an instruction: registers, offsets, and the byte or the word that an operand stands for.
 ghost use mathlib.Core.Path.{_≡_};
-ghost use Rattle.execution.specs.Reading.{indexOf, offsetOf, byteOf, wordOf};
+ghost use Rattle.execution.specs.Operands.{indexOf, offsetOf, byteOf, wordOf};
 use crate::Registers;
-use crate::reading::read_byte;
-use crate::reading::read_word;
 use stm8::Offset;
 use stm8::Operand;
 use stm8::Register;
+use storage::read_byte;
+use storage::read_word;
 
 pub fn offset_of(f: Offset) -> u16
     ensures { λ r. ⌜ r ≡ offsetOf f ⌝ }

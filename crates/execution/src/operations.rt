@@ -9,7 +9,7 @@ ghost use Rattle.byte_operations.specs.BitOperations.{bitResult, bitHolds, bitT
 ghost use Rattle.byte_operations.specs.FlagOperations.{flagResult};
 ghost use Rattle.byte_operations.specs.Conditions.{holds};
 ghost use Rattle.index_operations.specs.Words.{ldwResult, wordAluResult, wordModifyResult, mulResult};
-ghost use Rattle.execution.specs.Reading.{indexOf};
+ghost use Rattle.execution.specs.Operands.{indexOf};
 ghost use mathlib.Core.Bool.{false};
 ghost use Rattle.execution.specs.Computing.{withA, withIndex, storing as storingOf, testing as testingOf, intoOperand, halfOf, withHalf};
 use crate::Computed;

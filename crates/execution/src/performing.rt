@@ -4,15 +4,11 @@ ghost use mathlib.Core.List.{List};
 ghost use Prim.Native.Nat.{ℕ, _<_};
 ghost use Rattle.stm8.specs.declared.Instruction.the-variants.{Alu, Store, Modify, LoadWord, StoreWord, Popw, Bit, BitJump};
 ghost use Rattle.stm8.specs.declared.Instruction.the-variants.{Mov, Push, Pop, Call, Callr, Ret};
-ghost use Rattle.execution.specs.Performing.{spTrap, performed};
+ghost use Rattle.storage.specs.Storing.{spTrap};
+ghost use Rattle.execution.specs.Performing.{performed};
 use crate::Registers;
 use crate::Stepped;
-use crate::moving::put_direct;
-use crate::moving::put_operand;
 use crate::moving::target;
-use crate::reading::read_byte;
-use crate::reading::read_word;
-use crate::traps::call_trap;
 use effects::writes_back;
 use image::Limits;
 use stm8::AluOp;
@@ -23,6 +19,11 @@ use stm8::ModifyOp;
 use stm8::Operand;
 use stm8::Register;
 use stm8::Width;
+use storage::call_trap;
+use storage::put_direct;
+use storage::put_operand;
+use storage::read_byte;
+use storage::read_word;
 
 impl Registers {
     fn perform_alu(

@@ -18,7 +18,8 @@ use Rattle.image.specs.Rules.{LimitsRules, ImageRules}
 use Rattle.image.specs.Validation.{refusal, validationNumber}
 use Rattle.image.proofs.Validity.{number, rules-valid}
 use Rattle.execution.specs.Computing.{computed}
-use Rattle.execution.specs.Performing.{Result, spTrap, effectTrap, pcAfter, made}
+use Rattle.storage.specs.Storing.{spTrap}
+use Rattle.execution.specs.Performing.{Result, effectTrap, pcAfter, made}
 use Rattle.machine.specs.Step.{pcTrap, decodedStep, stepRefusal, stepped}
 use Rattle.execution.specs.declared.Registers.{Registers}
 use Rattle.machine.proofs.StepLaws.{step-refused, step-valid, finished as finishes, decodes, makes}

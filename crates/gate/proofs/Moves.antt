@@ -14,7 +14,8 @@ use Rattle.image.specs.declared.Limits.{Limits}
 use Rattle.image.specs.Access.{Granted}
 use Rattle.image.specs.Rules.{LimitsRules}
 use Rattle.image.proofs.Granting.{granted-exactly}
-use Rattle.execution.specs.Performing.{moveTrap, storeTrap, spAfter, storedAt, memoryAfter}
+use Rattle.storage.specs.Storing.{moveTrap, storeTrap, storedAt, memoryAfter}
+use Rattle.execution.specs.Performing.{spAfter}
 use Rattle.machine.specs.Changes.{Among}
 use Rattle.machine.proofs.Stores.{stored-other, size-kept, together}
 use Rattle.machine.proofs.EffectForms.{PushesOwn}

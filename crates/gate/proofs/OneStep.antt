@@ -23,8 +23,9 @@ use Rattle.stm8.specs.declared.Effect.{Effect}
 use Rattle.image.specs.declared.Limits.{Limits}
 use Rattle.image.specs.Image.{baseOf, countOf, startOf}
 use Rattle.code.specs.Depth.{movesDepth, popped, pushed, after}
-use Rattle.execution.specs.Reading.{readWord}
-use Rattle.execution.specs.Performing.{Result, result, moveTrap, callTrap, effectTrap, spAfter, pcAfter, storedAt, memoryAfter}
+use Rattle.storage.specs.Reading.{readWord}
+use Rattle.storage.specs.Storing.{moveTrap, callTrap, storedAt, memoryAfter}
+use Rattle.execution.specs.Performing.{Result, result, effectTrap, spAfter, pcAfter}
 use Rattle.execution.specs.declared.Registers.{Registers}
 use Rattle.execution.specs.declared.Computed.{Computed}
 use Rattle.execution.specs.declared.StepAnswer.the-variants.{Made}

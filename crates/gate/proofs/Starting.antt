@@ -19,7 +19,7 @@ use Rattle.acceptance.specs.Check.{checked}
 use Rattle.rules.specs.Outcome.{VerdictNumbered}
 use Rattle.rules.specs.declared.Verdict.{Verdict}
 use Rattle.rules.specs.declared.Verdict.the-variants.{Accepted, Refused}
-use Rattle.execution.specs.Performing.{bytesFrom, memoryAfter}
+use Rattle.storage.specs.Storing.{bytesFrom, memoryAfter}
 use Rattle.machine.proofs.Stores.{stored-other, together, word-stored}
 use Rattle.acceptance.proofs.Accepting.{accepted-exactly}
 use Rattle.gate.specs.Start.{Result, zeros, begun, cleared, byVerdict, started}

@@ -23,9 +23,11 @@ use Rattle.index_operations.proofs.Kept.{ldw-keeps, word-alu-keeps, word-modify
 use Rattle.image.specs.declared.Limits.{Limits}
 use Rattle.image.specs.Image.{baseOf}
 use Rattle.code.specs.Code.{instructionIn}
-use Rattle.execution.specs.Reading.{readByte, indexOf, byteOf, wordOf}
+use Rattle.storage.specs.Reading.{readByte}
+use Rattle.execution.specs.Operands.{indexOf, byteOf, wordOf}
 use Rattle.execution.specs.Computing.{withIndex, intoOperand, computed}
-use Rattle.execution.specs.Performing.{Result, spTrap, effectTrap, made, performed}
+use Rattle.storage.specs.Storing.{spTrap}
+use Rattle.execution.specs.Performing.{Result, effectTrap, made, performed}
 use Rattle.machine.specs.Step.{pcTrap, decodedStep, stepValid, stepRefusal, stepped}
 use Rattle.machine.specs.Run.{afterStep, noStepsLeft, ran}
 use Rattle.execution.specs.declared.Registers.{Registers}

@@ -22,7 +22,8 @@ use Rattle.image.specs.Access.{granted}
 use Rattle.image.specs.Image.{baseOf}
 use Rattle.image.proofs.RefusalNumbers.{validation-number}
 use Rattle.code.specs.Code.{instructionIn}
-use Rattle.execution.specs.Performing.{Result, spTrap, moveTrap, storeTrap, callTrap, effectTrap, made, performed}
+use Rattle.storage.specs.Storing.{spTrap, moveTrap, storeTrap, callTrap}
+use Rattle.execution.specs.Performing.{Result, effectTrap, made, performed}
 use Rattle.machine.specs.Step.{pcTrap, decodedStep, stepValid}
 use Rattle.machine.specs.Step.{stepRefusal, stepped, StepNumbered}
 use Rattle.machine.specs.Run.{afterStep, noStepsLeft, ran, RunNumbered}

@@ -26,11 +26,13 @@ use Rattle.image.specs.Rules.{LimitsRules}
 use Rattle.image.specs.Validation.{validated}
 use Rattle.image.proofs.Layouts.{valid-limits}
 use Rattle.code.specs.Code.{instructionIn}
-use Rattle.execution.specs.Reading.{readWord}
+use Rattle.storage.specs.Reading.{readWord}
 use Rattle.execution.specs.Computing.{computed}
-use Rattle.execution.specs.Performing.{Result, result, spTrap, moveTrap, callTrap, effectTrap, spAfter, pcAfter, bytesFrom, performed}
+use Rattle.storage.specs.Storing.{spTrap, moveTrap, callTrap, bytesFrom}
+use Rattle.execution.specs.Performing.{Result, result, effectTrap, spAfter, pcAfter, performed}
 use Rattle.machine.specs.Step.{pcTrap}
-use Rattle.execution.specs.Performing.{storedAt, memoryAfter, made}
+use Rattle.storage.specs.Storing.{storedAt, memoryAfter}
+use Rattle.execution.specs.Performing.{made}
 use Rattle.machine.specs.Step.{decodedStep, stepValid, stepRefusal, stepped}
 use Rattle.machine.specs.Changes.{GoesTo, Changes, MadeStep}
 use Rattle.execution.specs.declared.Registers.{Registers}

@@ -26,7 +26,8 @@ use Rattle.image.proofs.Layouts.{valid-bounds}
 use Rattle.image.proofs.Validity.{answer-refused, answer-valid}
 use Rattle.code.specs.Code.{instructionIn}
 use Rattle.execution.proofs.Shapes.{pops-inside}
-use Rattle.execution.specs.Performing.{result, spTrap, effectTrap, made, performed}
+use Rattle.storage.specs.Storing.{spTrap}
+use Rattle.execution.specs.Performing.{result, effectTrap, made, performed}
 use Rattle.machine.specs.Step.{pcTrap, decodingTrap, decodedStep, stepValid}
 use Rattle.machine.specs.Step.{stepRefusal, stepped}
 use Rattle.execution.specs.declared.Registers.{Registers}

@@ -14,8 +14,8 @@ use Rattle.stm8.specs.declared.Width.{Width}
 use Rattle.stm8.specs.declared.Width.the-variants.{Byte, Word}
 use Rattle.stm8.specs.declared.Place.{Place}
 use Rattle.stm8.specs.declared.Place.the-variants.{Pushed}
-use Rattle.execution.specs.Reading.{readByte, readWord}
-use Rattle.execution.specs.Performing.{bytesFrom, storedAt, memoryAfter}
+use Rattle.storage.specs.Reading.{readByte, readWord}
+use Rattle.storage.specs.Storing.{bytesFrom, storedAt, memoryAfter}
 use Rattle.machine.specs.Changes.{Among}
 
 -- a byte at another address is as it was

@@ -13,8 +13,8 @@ use Rattle.stm8.specs.declared.Instruction.{Instruction}
 use Rattle.stm8.specs.declared.Decoded.the-variants.{Found}
 use Rattle.image.specs.Image.{baseOf}
 use Rattle.code.specs.Code.{instructionIn}
-use Rattle.execution.specs.Reading.{readWord}
-use Rattle.execution.specs.Performing.{storedAt}
+use Rattle.storage.specs.Reading.{readWord}
+use Rattle.storage.specs.Storing.{storedAt}
 use Rattle.execution.specs.declared.Registers.{Registers}
 
 -- an address is one of a list

@@ -12,7 +12,8 @@ use Rattle.image.specs.declared.Limits.{Limits}
 use Rattle.image.specs.Image.{baseOf, sizeOf}
 use Rattle.image.specs.Validation.{refusal}
 use Rattle.code.specs.Code.{instructionIn}
-use Rattle.execution.specs.Performing.{Result, result, spTrap, performed}
+use Rattle.storage.specs.Storing.{spTrap}
+use Rattle.execution.specs.Performing.{Result, result, performed}
 use Rattle.execution.specs.declared.Registers.{Registers}
 use Rattle.execution.specs.declared.StepAnswer.{StepAnswer}
 use Rattle.execution.specs.declared.StepAnswer.the-variants.{Made, Finished, Trap, Refused}

@@ -6,7 +6,7 @@ ghost use Rattle.image.specs.Validation.{answer as answerOf};
 ghost use Rattle.image.specs.ValidLayout.{ValidLayout};
 ghost use Rattle.code.specs.Set.{lengthsFor};
 ghost use Rattle.code.specs.Code.{instructionIn};
-ghost use Rattle.execution.specs.Performing.{spTrap};
+ghost use Rattle.storage.specs.Storing.{spTrap};
 ghost use Rattle.machine.specs.Step.{pcTrap, decodingTrap, decodedStep, stepValid, stepRefusal};
 use crate::Registers;
 use crate::StepAnswer;

@@ -2,7 +2,7 @@
 ghost use mathlib.Core.Path.{_≡_};
 ghost use Prim.Native.Nat.{_+_, _≤_};
 ghost use Rattle.numbers.specs.Checks.{first as firstOf, under as underOf};
-ghost use Rattle.execution.specs.Performing.{spTrap};
+ghost use Rattle.storage.specs.Storing.{spTrap};
 use image::Layout;
 use image::Limits;
 use numbers::checks::first;

@@ -4,7 +4,7 @@ use mathlib.Core.Path.{sym, _∙_}
 use native.Mathlib.Omega.{arith}
 use Rattle.stm8.specs.Effects.{goes}
 use Rattle.stm8.specs.declared.Place.the-variants.{Nowhere}
-use Rattle.execution.specs.Performing.{storedAt, memoryAfter}
+use Rattle.storage.specs.Storing.{storedAt, memoryAfter}
 use Rattle.execution.proofs.Shapes.{in-range, no-store, made}
 use Rattle.execution.proofs.Registers.goes.Statement.{statement}
 use Rattle.execution.proofs.Registers.goes.Tie as tie

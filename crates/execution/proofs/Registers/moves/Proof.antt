@@ -4,7 +4,7 @@ use mathlib.Core.Path.{sym, _∙_}
 use native.Mathlib.Omega.{arith}
 use Rattle.stm8.specs.declared.Place.the-variants.{Nowhere}
 use Rattle.stm8.specs.declared.Flow.the-variants.{Next}
-use Rattle.execution.specs.Performing.{storedAt, memoryAfter}
+use Rattle.storage.specs.Storing.{storedAt, memoryAfter}
 use Rattle.execution.proofs.Shapes.{pops-inside, no-store, trapped, made}
 use Rattle.execution.proofs.Registers.moves.Statement.{statement}
 use Rattle.execution.proofs.Registers.moves.Tie as tie

@@ -3,7 +3,8 @@ use mathlib.Core.Path.{refl}
 use borrow.Author.Needs.{needs}
 use Rattle.stm8.specs.declared.Flow.the-variants.{Call}
 use Rattle.execution.specs.Computing.{computed}
-use Rattle.execution.specs.Performing.{callTrap, pcAfter, made, performed}
+use Rattle.storage.specs.Storing.{callTrap}
+use Rattle.execution.specs.Performing.{pcAfter, made, performed}
 use Rattle.execution.specs.Internal.{performedBy}
 use Rattle.execution.proofs.Registers.perform_call.Statement.{statement}
 use Rattle.execution.proofs.Registers.perform_call.Tie as tie

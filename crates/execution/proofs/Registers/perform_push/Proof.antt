@@ -4,7 +4,8 @@ use denote.Ref.{now}
 use borrow.Author.Needs.{needs}
 use Rattle.stm8.specs.declared.Flow.the-variants.{Next}
 use Rattle.execution.specs.Computing.{computed}
-use Rattle.execution.specs.Performing.{callTrap, pcAfter, made, performed}
+use Rattle.storage.specs.Storing.{callTrap}
+use Rattle.execution.specs.Performing.{pcAfter, made, performed}
 use Rattle.execution.specs.Internal.{performedBy}
 use Rattle.execution.proofs.Registers.perform_push.Statement.{statement}
 use Rattle.execution.proofs.Registers.perform_push.Tie as tie

@@ -8,7 +8,8 @@ use Rattle.stm8.specs.Effects.{bytesWide}
 use Rattle.stm8.specs.declared.Place.the-variants.{Pushed}
 use Rattle.stm8.specs.declared.Flow.{Flow}
 use Rattle.stm8.proofs.EffectLaws.{wide-most}
-use Rattle.execution.specs.Performing.{callTrap, effectTrap, storedAt}
+use Rattle.storage.specs.Storing.{callTrap, storedAt}
+use Rattle.execution.specs.Performing.{effectTrap}
 use Rattle.execution.proofs.Shapes.{push, trapped, made}
 use Rattle.execution.proofs.Registers.pushes.Statement.{statement}
 use Rattle.execution.proofs.Registers.pushes.Tie as tie

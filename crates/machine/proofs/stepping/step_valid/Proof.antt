@@ -5,7 +5,7 @@ use borrow.Author.Tests.{eq-eqb, ne-eqb}
 use borrow.Author.Needs.{needs}
 use Rattle.numbers.specs.Checks.{first}
 use Rattle.numbers.proofs.Checking.{first-zero}
-use Rattle.execution.specs.Performing.{spTrap}
+use Rattle.storage.specs.Storing.{spTrap}
 use Rattle.machine.specs.Step.{pcTrap}
 use Rattle.machine.proofs.StepLaws.{finished, trapped-early, decodes, pc-trap-is}
 use Rattle.machine.proofs.stepping.step_valid.Statement.{statement}

@@ -1,6 +1,6 @@
 -- `machine::traps::sp_trap` meets its contract.
 use borrow.Author.Needs.{needs}
-use Rattle.execution.specs.Performing.{spTrap}
+use Rattle.storage.specs.Storing.{spTrap}
 use Rattle.machine.proofs.traps.sp_trap.Statement.{statement}
 use Rattle.machine.proofs.traps.sp_trap.Tie as tie
 

@@ -6,7 +6,7 @@ use borrow.Author.Tests.{lt-ltb, le-ltb}
 use lib.ListN.{getD}
 use lib.Seq.{getD-drop}
 use Rattle.image.specs.Image.{baseOf, codeAt, codeOf}
-use Rattle.execution.specs.Reading.{readByte}
+use Rattle.storage.specs.Reading.{readByte}
 
 module _ (image memory : List ℕ) (address : ℕ) where
   pub from-memory : address < 0x8000 → readByte image memory address ≡ getD memory address 0

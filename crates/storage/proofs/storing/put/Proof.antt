@@ -1,8 +1,8 @@
--- `execution::moving::put` meets its contract.
+-- `storage::storing::put` meets its contract.
 use borrow.Author.Needs.{needs}
-use Rattle.execution.specs.Performing.{memoryAfter}
-use Rattle.execution.proofs.moving.put.Statement.{statement}
-use Rattle.execution.proofs.moving.put.Tie as tie
+use Rattle.storage.specs.Storing.{memoryAfter}
+use Rattle.storage.proofs.storing.put.Statement.{statement}
+use Rattle.storage.proofs.storing.put.Tie as tie
 
 pub put-spec : {M : Type 1} → statement M
 unfolding memoryAfter

@@ -1,10 +1,10 @@
--- `execution::traps::stack_trap` meets its contract.
+-- `storage::traps::stack_trap` meets its contract.
 use borrow.Author.Needs.{needs}
 use native.Mathlib.Omega.{arith}
 use Rattle.stm8.proofs.EffectLaws.{wide-most}
-use Rattle.execution.specs.Performing.{storeTrap}
-use Rattle.execution.proofs.traps.stack_trap.Statement.{statement}
-use Rattle.execution.proofs.traps.stack_trap.Tie as tie
+use Rattle.storage.specs.Storing.{storeTrap}
+use Rattle.storage.proofs.traps.stack_trap.Statement.{statement}
+use Rattle.storage.proofs.traps.stack_trap.Tie as tie
 
 pub stack-trap-spec : {M : Type 1} → statement M
 unfolding storeTrap

@@ -1,8 +1,8 @@
--- `execution::moving::put_operand` meets its contract.
+-- `storage::storing::put_operand` meets its contract.
 use borrow.Author.Needs.{needs}
-use Rattle.execution.proofs.Shapes.{nothing-stored}
-use Rattle.execution.proofs.moving.put_operand.Statement.{statement}
-use Rattle.execution.proofs.moving.put_operand.Tie as tie
+use Rattle.storage.proofs.NothingStored.{nothing-stored}
+use Rattle.storage.proofs.storing.put_operand.Statement.{statement}
+use Rattle.storage.proofs.storing.put_operand.Tie as tie
 
 pub put-operand-spec : {M : Type 1} → statement M
 put-operand-spec =

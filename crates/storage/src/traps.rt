@@ -6,7 +6,7 @@ ghost use Rattle.numbers.specs.Checks.{unless as unlessOf};
 ghost use Rattle.stm8.specs.declared.Place.{Place};
 ghost use Rattle.stm8.specs.declared.Place.the-variants.{Direct, OnStack};
 ghost use Rattle.stm8.specs.declared.Flow.{Flow};
-ghost use Rattle.execution.specs.Performing.{moveTrap, storeTrap};
+ghost use Rattle.storage.specs.Storing.{moveTrap, storeTrap};
 use effects::bytes_wide;
 use image::Limits;
 use image::granted;
@@ -16,7 +16,7 @@ use numbers::checks::unless;
 use stm8::Width;
 
 // 24, SP would leave its range.
-pub(crate) fn move_trap(limits: Limits, sp: u16, pops: u8, pushes: u8) -> u8
+pub fn move_trap(limits: Limits, sp: u16, pops: u8, pushes: u8) -> u8
     ensures { λ r. ⌜ ((place : Place) (flow : Flow) →
         r ≡ moveTrap limits sp (record { pops = pops; pushes = pushes; place = place; flow = flow })) ⌝ }
 {
@@ -51,7 +51,7 @@ pub(crate) fn stack_trap(limits: Limits, sp: u16, offset: u8, w: Width) -> u8
 }
 
 // 22, a call whose next address is 10000.
-pub(crate) fn call_trap(next: u32) -> u8
+pub fn call_trap(next: u32) -> u8
     ensures { λ r. ⌜ r ≡ unlessOf (ltb next 0x10000) 22 ⌝ }
 {
     unless(next < 0x10000, 22)

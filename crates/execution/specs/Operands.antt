@@ -1,28 +1,14 @@
--- Data reads, and the operands of an instruction.
-use Prim.Native.Nat.{ℕ, _+_, _-_}
-use mathlib.Core.Bool.{cond}
+-- The operands of an instruction.
+use Prim.Native.Nat.{ℕ, _+_}
 use mathlib.Core.List.{List}
-use lib.Dec.{ltb}
-use lib.ListN.{getD}
-use Rattle.numbers.specs.Words.{word}
 use Rattle.stm8.specs.declared.Register.{Register}
 use Rattle.stm8.specs.declared.Register.the-variants.{X, Y}
 use Rattle.stm8.specs.declared.Offset.{Offset}
 use Rattle.stm8.specs.declared.Offset.the-variants.{Zero, Byte, Word}
 use Rattle.stm8.specs.declared.Operand.{Operand}
 use Rattle.stm8.specs.declared.Operand.the-variants.{Accumulator, Immediate, ImmediateWord, Short, Long, Indexed, Sp}
-use Rattle.image.specs.Image.{baseOf, codeOf}
+use Rattle.storage.specs.Reading.{readByte, readWord}
 use Rattle.execution.specs.declared.Registers.{Registers}
-
--- Data reads: 0000 to 7FFF from memory, the image's own addresses from its code, any other address gives 00.
-unfoldable pub readByte : List ℕ → List ℕ → ℕ → ℕ
-readByte image memory address =
-    cond (ltb address 0x8000) (getD memory address 0)
-    (cond (ltb address (baseOf image)) 0 (getD (codeOf image) (address - baseOf image) 0))
-
--- A word's high byte lies at the lower address; the address of its second byte is not cut to 16 bits.
-unfoldable pub readWord : List ℕ → List ℕ → ℕ → ℕ
-readWord image memory address = word (readByte image memory address) (readByte image memory (address + 1))
 
 abbrev pub indexOf : Registers → Register → ℕ
 indexOf regs X = regs .x

@@ -1,9 +1,9 @@
--- `execution::moving::put_on_stack` meets its contract.
+-- `storage::storing::put_on_stack` meets its contract.
 use borrow.Author.Needs.{needs}
 use mathlib.Core.Path.{_∙_}
-use Rattle.execution.specs.Performing.{storedAt}
-use Rattle.execution.proofs.moving.put_on_stack.Statement.{statement}
-use Rattle.execution.proofs.moving.put_on_stack.Tie as tie
+use Rattle.storage.specs.Storing.{storedAt}
+use Rattle.storage.proofs.storing.put_on_stack.Statement.{statement}
+use Rattle.storage.proofs.storing.put_on_stack.Tie as tie
 
 pub put-on-stack-spec : {M : Type 1} → statement M
 unfolding storedAt

@@ -1,8 +1,8 @@
--- `execution::traps::move_trap` meets its contract.
+-- `storage::traps::move_trap` meets its contract.
 use borrow.Author.Needs.{needs}
-use Rattle.execution.specs.Performing.{moveTrap}
-use Rattle.execution.proofs.traps.move_trap.Statement.{statement}
-use Rattle.execution.proofs.traps.move_trap.Tie as tie
+use Rattle.storage.specs.Storing.{moveTrap}
+use Rattle.storage.proofs.traps.move_trap.Statement.{statement}
+use Rattle.storage.proofs.traps.move_trap.Tie as tie
 
 pub move-trap-spec : {M : Type 1} → statement M
 unfolding moveTrap

@@ -1,9 +1,9 @@
--- `execution::moving::put_unless` meets its contract.
+-- `storage::storing::put_unless` meets its contract.
 use borrow.Author.Needs.{needs}
 use mathlib.Core.Path.{refl}
 use borrow.Author.Tests.{eq-eqb, ne-eqb}
-use Rattle.execution.proofs.moving.put_unless.Statement.{statement}
-use Rattle.execution.proofs.moving.put_unless.Tie as tie
+use Rattle.storage.proofs.storing.put_unless.Statement.{statement}
+use Rattle.storage.proofs.storing.put_unless.Tie as tie
 
 pub put-unless-spec : {M : Type 1} → statement M
 put-unless-spec =

@@ -1,9 +1,9 @@
--- `execution::moving::put_direct` meets its contract.
+-- `storage::storing::put_direct` meets its contract.
 use borrow.Author.Needs.{needs}
 use mathlib.Core.Path.{_∙_}
-use Rattle.execution.specs.Performing.{storedAt}
-use Rattle.execution.proofs.moving.put_direct.Statement.{statement}
-use Rattle.execution.proofs.moving.put_direct.Tie as tie
+use Rattle.storage.specs.Storing.{storedAt}
+use Rattle.storage.proofs.storing.put_direct.Statement.{statement}
+use Rattle.storage.proofs.storing.put_direct.Tie as tie
 
 pub put-direct-spec : {M : Type 1} → statement M
 unfolding storedAt

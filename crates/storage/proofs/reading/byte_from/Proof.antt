@@ -1,10 +1,10 @@
--- `execution::reading::read_byte` meets its contract, by the three ways of a read.
+-- `storage::reading::byte_from` meets its contract, by the three ways of a read.
 use mathlib.Core.Path.{sym, _∙_}
 use denote.Ref.{now}
 use borrow.Author.Needs.{needs}
-use Rattle.execution.proofs.ReadLaws.{from-memory, below-code, from-code}
-use Rattle.execution.proofs.reading.read_byte.Statement.{statement}
-use Rattle.execution.proofs.reading.read_byte.Tie as tie
+use Rattle.storage.proofs.ReadLaws.{from-memory, below-code, from-code}
+use Rattle.storage.proofs.reading.byte_from.Statement.{statement}
+use Rattle.storage.proofs.reading.byte_from.Tie as tie
 
 returns : tie.Need-returns
 returns c =
@@ -26,8 +26,8 @@ returns-3 c =
     (c .before .code-at .ensures .0)
     (c2 .if2 .left))
 
-pub read-byte-spec : {M : Type 1} → statement M
-read-byte-spec =
+pub byte-from-spec : {M : Type 1} → statement M
+byte-from-spec =
     tie.close
     (tie.spec
     (λ c κs. search needs)
