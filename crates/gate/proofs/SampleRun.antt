@@ -22,7 +22,8 @@ use Rattle.image.specs.Validation as Validation
 use Rattle.image.specs.Access.{granted}
 use Rattle.code.specs.Set as Set
 use Rattle.code.specs.Code as Code
-use Rattle.execution.specs.Reading as Reading
+use Rattle.storage.specs.Reading as Reading
+use Rattle.storage.specs.Storing as Storing
 use Rattle.execution.specs.Computing as Computing
 use Rattle.execution.specs.Performing as Performing
 use Rattle.machine.specs.Step as Step
@@ -71,8 +72,8 @@ unfolding xor Bits.bit Checks.first Checks.both Checks.under Checks.unless Check
     relative granted Set.decodedFor Code.decodedAt Image.versionOf Image.baseOf Image.countOf Image.lengthsOf Image.lengthAt Image.codeAt Image.codeOf Image.sizeOf
     Image.startOf Image.endOf Image.mainOf Words.wordAt Validation.areaCheck Validation.apart Validation.limitsCheck Validation.markCheck
     Validation.versionCheck Validation.lengthCheck Validation.lengthsCheck Validation.headerCheck Validation.layoutCheck Validation.refusal Reading.readByte
-    Reading.readWord Computing.computed Performing.spTrap Step.pcTrap Performing.moveTrap Performing.storeTrap Performing.callTrap Performing.effectTrap Performing.pcAfter
-    Performing.storedAt Performing.memoryAfter Performing.made Performing.performed Step.decodedStep Step.stepValid Step.stepRefusal Step.stepped Run.noStepsLeft Run.ran fedTo
+    Reading.readWord Computing.computed Storing.spTrap Step.pcTrap Storing.moveTrap Storing.storeTrap Storing.callTrap Performing.effectTrap Performing.pcAfter
+    Storing.storedAt Storing.memoryAfter Performing.made Performing.performed Step.decodedStep Step.stepValid Step.stepRefusal Step.stepped Run.noStepsLeft Run.ran fedTo
 runs-from = refl
 
 pub sample-runs : seenFrom (pointStarted (started sample limits (replicate 14 0) memory 1 0 0 0)) ≡ trace

@@ -27,7 +27,8 @@ use Rattle.code.specs.Instructions as Instructions
 use Rattle.acceptance.specs.Starts as Starts
 use Rattle.acceptance.specs.Exploration as Exploration
 use Rattle.acceptance.specs.Check as Check
-use Rattle.execution.specs.Reading as Reading
+use Rattle.storage.specs.Reading as Reading
+use Rattle.storage.specs.Storing as Storing
 use Rattle.execution.specs.Computing as Computing
 use Rattle.execution.specs.Performing as Performing
 use Rattle.machine.specs.Step as Step
@@ -45,6 +46,6 @@ unfolding xor Bits.bit Checks.first Checks.both Checks.under Checks.unless Check
     Cells.beginning Cells.callee Cells.calleeCell Instructions.startsFrom Instructions.startsOf Starts.listed Exploration.exploreFrom
     Exploration.mostMoved Exploration.biasFor Exploration.explored Check.firstAt Check.biasOf Check.exploredIn Check.flowRefusing
     Check.routineRefusing Check.routinesFrom Check.swept Check.codeChecked Check.checked
-    Reading.readByte Computing.computed Performing.spTrap Step.pcTrap Performing.moveTrap Performing.storeTrap Performing.callTrap Performing.effectTrap Performing.pcAfter
-    Performing.storedAt Performing.memoryAfter Performing.made Performing.performed Step.decodedStep Step.stepValid Step.stepRefusal Step.stepped
+    Reading.readByte Computing.computed Storing.spTrap Step.pcTrap Storing.moveTrap Storing.storeTrap Storing.callTrap Performing.effectTrap Performing.pcAfter
+    Storing.storedAt Storing.memoryAfter Performing.made Performing.performed Step.decodedStep Step.stepValid Step.stepRefusal Step.stepped
 all-hold = refl
