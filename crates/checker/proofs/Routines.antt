@@ -1,15 +1,16 @@
 -- The routines of a valid image, one after the other.
-use Prim.Native.Nat.{ℕ, zero, suc, _+_, _<_, _≤_}
+use Prim.Native.Nat.{ℕ, zero, suc, _+_, _-_, _<_, _≤_}
 use mathlib.Core.Path.{_≡_, refl, sym, ap, _∙_, subst}
 use mathlib.Core.Logic.{⊎-elim}
 use mathlib.Core.Bool.{Bool, true, false}
 use mathlib.Core.List.{List}
 use native.Mathlib.Omega.{arith}
-use lib.ListN.{length, getD, set, replicate, length-replicate}
+use lib.ListN.{length, getD, take, drop, set, replicate, length-replicate}
 use lib.Seq.{getD-set-same, getD-set-other}
 use borrow.Author.Count.{below-more}
+use borrow.Rule.Slice.PartAt.{part-to-end}
 use Rattle.numbers.specs.Bits.{flag}
-use Rattle.image.specs.Image.{countOf, sizeOf, lengthAt, startOf, endOf}
+use Rattle.image.specs.Image.{countOf, codeAt, codeOf, sizeOf, lengthAt, startOf, endOf}
 use Rattle.image.specs.Validation.{validated}
 use Rattle.image.specs.declared.Limits.{Limits}
 use Rattle.image.specs.declared.Layout.{Layout}
@@ -29,7 +30,7 @@ use Rattle.acceptance.proofs.Graphs.{decoded}
 use Rattle.acceptance.proofs.OneRoutine.{code-refused, checked-refused, checked-passed}
 use Rattle.acceptance.proofs.AllRoutines.{zeros-at, none-yet, one-more}
 use Rattle.acceptance.proofs.NeedBounds.{need-bound, no-needs, needs-bound}
-use Rattle.decode_pass.specs.Pass.{Begins, RoutineOf, NoStarts, cellsOf, RoutineDecoded, refused, filled}
+use Rattle.decode_pass.specs.Pass.{Begins, RoutineOf, Given, NoStarts, cellsOf, RoutineDecoded, refused, filled}
 use Rattle.decode_pass.specs.declared.Routine.{Routine}
 use Rattle.decode_pass.proofs.DecodePass.{fault-some, start-below}
 use Rattle.checker.specs.Internal.{Clean, NeedsBelow, Swept, ended, stopped, Small}
@@ -42,6 +43,13 @@ begins-more image begins k at inside e before =
     below-more (λ j. getD (set begins k at) j 0 ≡ startOf image j) k
     (λ j h. getD-set-other begins k j at 0 (λ z. omega arith) ∙ before j h)
     (getD-set-same begins k at 0 inside ∙ e)
+
+-- a routine with the code cut out of its image
+pub code-given : {image begins : List ℕ} {r : Routine} {at : ℕ} → at ≡ codeAt image → RoutineOf image r → Begins image begins (r .index) →
+    Given image (take (length image - at) (drop at image)) begins r
+unfolding codeOf
+code-given {image} {at = at} own routine earlier =
+    record { routine = routine; own = part-to-end image at ∙ ap (λ k. drop k image) own; earlier = earlier }
 
 flag-most : (b : Bool) → flag b ≤ 1
 flag-most true = omega arith

@@ -71,9 +71,8 @@ fn check_code(image: &[u8], limits: Limits, layout: Layout, marks: &mut [u16]) -
     ensures { λ r. ⌜ CodeOutcome (now (image .entry)) limits r (now (marks .exit)) ⌝ }
 {
     clear(marks);
-    let lengths = stm8::map_lengths();
     let begins = routine_begins(image, layout.count);
-    let s = sweep_routines(image, limits, layout, &lengths, &begins, marks);
+    let s = sweep_routines(image, limits, layout, &begins, marks);
     let v = verdict_of(limits, layout, s);
     clear_refused(v, marks);
     v

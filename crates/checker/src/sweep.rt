@@ -2,12 +2,11 @@
 ghost use mathlib.Core.Path.{_≡_};
 ghost use Prim.Native.Nat.{_+_, _≤_, _<_};
 ghost use lib.ListN.{set, replicate};
-ghost use Rattle.image.specs.Image.{versionOf, sizeOf, startOf};
+ghost use Rattle.image.specs.Image.{sizeOf, startOf};
 ghost use Rattle.image.specs.Validation.{validated};
 ghost use Rattle.image.specs.declared.Validated.the-variants.{Valid};
-ghost use Rattle.code.specs.Set.{lengthsFor};
 ghost use Rattle.acceptance.specs.Passed.{RoutineChecked, RoutinesPassed};
-ghost use Rattle.decode_pass.specs.Pass.{Begins, RoutineOf, Given};
+ghost use Rattle.decode_pass.specs.Pass.{Begins, RoutineOf};
 ghost use Rattle.checker.specs.Internal.{Clean, Swept, Small};
 use decode_pass::Routine;
 use decode_pass::decode_routine;
@@ -15,6 +14,7 @@ use flow_check::Checked;
 use flow_check::check_flow;
 use image::Layout;
 use image::Limits;
+use image::code_at;
 use image::routine_length;
 
 // The state between routines: the first refusal, the offset, the next routine's place in the table, the number of starts, and the needs
@@ -46,7 +46,6 @@ fn routine_at(image: &[u8], limits: Limits, layout: Layout, index: usize, start:
 // The next routine: 8, 9 and 15 over all its starts, then by its cells.
 fn check_routine(
     image: &[u8],
-    lengths: &[[u8; 256]; 3],
     begins: &[u16; 32],
     r: Routine,
     s: Sweep,
@@ -55,13 +54,14 @@ fn check_routine(
     stack: &mut [u16; 4096],
     marks: &mut [u16],
 ) -> Checked
-    requires { ⌜ Given (now image) (now lengths) (now begins) r × Clean (r .start) (now cells) (now depths) (now stack)
+    requires { ⌜ RoutineOf (now image) r × Begins (now image) (now begins) (r .index) × Clean (r .start) (now cells) (now depths) (now stack)
         × RoutinesPassed (now image) (r .limits) (r .index) (s .needs) (now marks) (s .count) ⌝ }
     ensures { λ x. ⌜ RoutineChecked (now (image .entry)) (r .limits) (s .needs) (r .index)
         (now (marks .entry)) (x .refusal) (x .at) (now (marks .exit)) (x .need) (x .count) ⌝ }
     ensures { λ x. ⌜ (x .refusal ≡ 0 → Clean (r .end) (now (cells .exit)) (now (depths .exit)) (now (stack .exit))) ⌝ }
 {
-    let d = decode_routine(image, lengths, begins, r, cells);
+    let code = code_at(image);
+    let d = decode_routine(&image[code..], begins, r, cells);
     if d.number != 0 {
         return Checked {
             refusal: d.number,
@@ -135,12 +135,11 @@ pub(crate) fn sweep_routines(
     image: &[u8],
     limits: Limits,
     layout: Layout,
-    lengths: &[[u8; 256]; 3],
     begins: &[u16; 32],
     marks: &mut [u16],
 ) -> Sweep
-    requires { ⌜ (validated (now image) limits ≡ Valid layout) × (now lengths ≡ lengthsFor (versionOf (now image)))
-        × Begins (now image) (now begins) (layout .count) × (now marks ≡ replicate (sizeOf (now image)) 0) ⌝ }
+    requires { ⌜ (validated (now image) limits ≡ Valid layout) × Begins (now image) (now begins) (layout .count)
+        × (now marks ≡ replicate (sizeOf (now image)) 0) ⌝ }
     ensures { λ r. ⌜ Swept (now (image .entry)) limits r (now (marks .exit)) ⌝ }
     ensures { λ r. ⌜ Small r ⌝ }
 {
@@ -152,7 +151,6 @@ pub(crate) fn sweep_routines(
         let r = routine_at(image, limits, layout, s.index, s.at);
         let x = check_routine(
             image,
-            lengths,
             begins,
             r,
             s,

@@ -1,12 +1,11 @@
--- The part of an image from one offset of its code to another, of which no more is taken than there is.
+-- The part of a list from one place to another, of which no more is taken than there is.
 use Prim.Native.Nat.{ℕ, zero, suc, _+_, _-_, _≤_, min}
-use mathlib.Core.Path.{_≡_, refl, ap, sym, _∙_}
+use mathlib.Core.Path.{_≡_, refl, ap}
 use mathlib.Core.Logic.{by-cases}
 use mathlib.Core.List.{List, [], _∷_}
 use native.Mathlib.Decide.{decLe}
 use native.Mathlib.Omega.{arith}
 use lib.ListN.{length, take, drop, length-drop}
-use lib.Seq.{drop-drop}
 
 -- past the end of a list all counts are one
 take-same : (n m : ℕ) (s : List ℕ) → min n (length s) ≡ min m (length s) → take n s ≡ take m s
@@ -17,15 +16,6 @@ take-same (suc n) zero [] e = refl
 take-same (suc n) zero (b ∷ s) e = absurd (omega arith)
 take-same (suc n) (suc m) [] e = refl
 take-same (suc n) (suc m) (b ∷ s) e = ap (λ t. b ∷ t) (take-same n m s (omega arith))
-
-drop-same : (n m : ℕ) (s : List ℕ) → min n (length s) ≡ min m (length s) → drop n s ≡ drop m s
-drop-same zero zero s e = refl
-drop-same zero (suc m) [] e = refl
-drop-same zero (suc m) (b ∷ s) e = absurd (omega arith)
-drop-same (suc n) zero [] e = refl
-drop-same (suc n) zero (b ∷ s) e = absurd (omega arith)
-drop-same (suc n) (suc m) [] e = refl
-drop-same (suc n) (suc m) (b ∷ s) e = drop-same n m s (omega arith)
 
 -- an offset up to a bound, or to the end where that comes first
 cut : (at end size : ℕ) → at ≤ min end size → min (min end size - at) (size - at) ≡ min (end - at) (size - at)
@@ -40,11 +30,8 @@ past at end size h =
     (λ le. let none : end - at ≡ 0 = omega arith in rw none)
     (λ gt. let none : size - at ≡ 0 = omega arith in rw none (omega arith))
 
-same-front : (front n m : ℕ) → front + n - (front + m) ≡ n - m
-same-front front n m = omega arith
-
 -- a part whose ends are cut to what there is
-within : (s : List ℕ) (at end : ℕ) → let to = min end (length s) in
+pub within : (s : List ℕ) (at end : ℕ) → let to = min end (length s) in
     take (to - min at to) (drop (min at to) s) ≡ take (end - at) (drop at s)
 within s at end =
     let size = length-drop at s in
@@ -55,11 +42,3 @@ within s at end =
     (λ gt.
     let none : min end (length s) - min at (min end (length s)) ≡ 0 = omega arith in
     rw none (take-same 0 (end - at) (drop at s) (rw size (past at end (length s) (omega arith)))))
-
-pub part : (image : List ℕ) (code at end from to code′ : ℕ) → code′ ≡ min code (length image) → to ≡ min end (length image - code′) → from ≡ min at to →
-    take (code′ + to - (code′ + from)) (drop (code′ + from) image) ≡ take (end - at) (drop at (drop code image))
-part image code at end from to code′ c t f =
-    let rest = drop code′ image in
-    let room : length rest ≡ length image - code′ = length-drop code′ image in
-    let t′ : to ≡ min end (length rest) = t ∙ ap (min end) (sym room) in
-    rw (same-front code′ to from, ← drop-drop from code′ image, f, t′, within rest at end, drop-same code′ code image (omega arith))

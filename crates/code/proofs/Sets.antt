@@ -1,18 +1,15 @@
--- Decoding by the set of a version: an instruction that is found is the one that the bytes are, and the version's lengths tell all.
+-- Decoding by the set of a version: the version's lengths tell all.
 use Prim.Native.Nat.{ℕ, _-_}
 use mathlib.Core.Path.{_≡_, refl, ap, sym, _∙_}
 use mathlib.Core.List.{List}
 use lib.ListN.{getD, take, drop}
 use Rattle.numbers.specs.Lists.{Bytes}
 use Rattle.numbers.proofs.Bytes.{bytes-taken, bytes-dropped}
-use Rattle.numbers.proofs.Checking.{by-test}
-use Rattle.numbers.proofs.Computing.{table-at}
-use Rattle.stm8.specs.OpcodeMap.{Page, Plain, After72, After90, Entry, Blank, Is, entry}
-use Rattle.stm8.specs.Decoding.{pageOf, entryIn, lengthOf, lengths, decodedIn, decoded, tableOf, decodedBy, mapLengths}
+use Rattle.stm8.specs.OpcodeMap.{Entry, Blank, Is}
+use Rattle.stm8.specs.Decoding.{pageOf, entryIn, lengthOf, lengths, decodedIn, decoded, decodedBy, mapLengths}
 use Rattle.stm8.proofs.Lengths.{by-map-lengths}
-use Rattle.decoder.specs.Tables.{WithinMap}
 use Rattle.image.specs.Image.{versionOf, codeAt, codeOf}
-use Rattle.code.specs.Set.{allowed, entryFor, decodedFor, pageLengths, lengthsFor}
+use Rattle.code.specs.Set.{entryFor, decodedFor, lengthsFor}
 use Rattle.code.specs.Code.{decodedAt}
 
 module _ (version : ℕ) where
@@ -25,29 +22,13 @@ module _ (version : ℕ) where
   unfolding decodedFor decoded
   decoded-for s = let page = pageOf (getD s 0 0) in ap (λ e. decodedIn page (lengthOf e) s) (all-allowed (entryIn page s))
 
-  pub lengths-for : lengthsFor version ≡ mapLengths
+  lengths-for : lengthsFor version ≡ mapLengths
   unfolding lengthsFor lengths
   lengths-for = refl
 
   -- decoding goes by the version's lengths
   pub by-lengths : (tables : List (List ℕ)) → tables ≡ lengthsFor version → (s : List ℕ) → Bytes s → decodedBy tables s ≡ decodedFor version s
   by-lengths tables own s bytes = by-map-lengths tables (own ∙ lengths-for) s bytes ∙ sym (decoded-for s)
-
-  -- which are within the map
-  pub lengths-within : WithinMap (lengthsFor version)
-  unfolding WithinMap lengthsFor lengths
-  lengths-within page op h none =
-      let own = sym (table-at (λ k. lengthOf (entry page k 0 0 0 0)) op h) ∙ none in
-      ap (λ l. getD l op 0) (table page) ∙ table-at (λ k. lengthOf (entryFor version (entry page k 0 0 0 0))) op h ∙ left-out (entry page op 0 0 0 0) own
-    where
-      table : (page : Page) → tableOf (lengthsFor version) page ≡ pageLengths version page
-      table Plain = refl
-      table After72 = refl
-      table After90 = refl
-
-      left-out : (e : Entry) → lengthOf e ≡ 0 → lengthOf (entryFor version e) ≡ 0
-      left-out Blank none = refl
-      left-out (Is i) none = by-test (λ (e : Entry). lengthOf e ≡ 0) (allowed version i) {x = Is i} {y = Blank} (λ t. none) (λ t. refl)
 
 -- so does what stands at an offset of an image
 pub decoded-at : (image : List ℕ) → Bytes image → (tables : List (List ℕ)) → tables ≡ lengthsFor (versionOf image) → (end o : ℕ) →

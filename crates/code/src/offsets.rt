@@ -1,13 +1,12 @@
 // What stands at an offset of an image's code.
 ghost use mathlib.Core.Path.{_≡_};
+ghost use mathlib.Core.List.{List};
 ghost use Prim.Native.Nat.{ℕ, _+_, _<_, _≤_, min};
 ghost use Rattle.stm8.specs.declared.Instruction.{Instruction};
 ghost use Rattle.stm8.specs.declared.Decoded.the-variants.{Found};
-ghost use Rattle.image.specs.Image.{versionOf};
-ghost use Rattle.code.specs.Set.{lengthsFor};
+ghost use Rattle.image.specs.Image.{codeOf};
 ghost use Rattle.code.specs.Code.{decodedAt};
-use decoder::decode_within;
-use image::code_at;
+use decoder::decode;
 use stm8::Decoded;
 
 // The smaller of two numbers.
@@ -17,14 +16,13 @@ fn least(a: usize, b: usize) -> usize
     if a < b { a } else { b }
 }
 
-// What the bytes at an offset are, by the lengths of the image's version, which are lent; they end at a bound, or with the image. By any
-// lengths what is found has bytes, and ends at the bound or before.
-pub fn decode_at(image: &[u8], lengths: &[[u8; 256]; 3], at: usize, end: usize) -> Decoded
-    ensures { λ r. ⌜ (now (lengths .entry) ≡ lengthsFor (versionOf (now (image .entry))) → r ≡ decodedAt (now (image .entry)) end at) ⌝ }
+// What the bytes at an offset of an image's code are; they end at a bound, or with the code. What is found has bytes, and ends at the bound or
+// before.
+pub fn decode_at(code: &[u8], at: usize, end: usize) -> Decoded
+    ensures { λ r. ⌜ ((image : List ℕ) → now (code .entry) ≡ codeOf image → r ≡ decodedAt image end at) ⌝ }
     ensures { λ r. ⌜ ((i : Instruction) (n : ℕ) → r ≡ Found i n → (0 < n) × (at + n ≤ end)) ⌝ }
 {
-    let code = least(code_at(image), image.len());
-    let to = least(end, image.len() - code);
+    let to = least(end, code.len());
     let from = least(at, to);
-    decode_within(&image[code + from..code + to], lengths)
+    decode(&code[from..to])
 }

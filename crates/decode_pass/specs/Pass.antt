@@ -3,9 +3,8 @@ use Prim.Native.Nat.{ℕ, _≤_, _<_}
 use mathlib.Core.Path.{_≡_}
 use mathlib.Core.List.{List}
 use lib.ListN.{length, getD}
-use Rattle.image.specs.Image.{versionOf, baseOf, countOf, startOf, endOf}
+use Rattle.image.specs.Image.{baseOf, countOf, codeOf, startOf, endOf}
 use Rattle.image.specs.Rules.{ImageRules}
-use Rattle.code.specs.Set.{lengthsFor}
 use Rattle.rules.specs.Refusal.{CodeFault, Lowest}
 use Rattle.control_flow.specs.Graph.{column}
 use Rattle.control_flow.specs.Routine as cells
@@ -27,10 +26,10 @@ pub record RoutineOf (image : List ℕ) (r : Routine) : Type 0 where
   pub some : r .start < r .end
   pub size : r .end ≤ 4096
 
--- what each start is decoded by: its routine, the lengths of the image's version, and where the routines before it begin
-pub record Given (image : List ℕ) (lengths : List (List ℕ)) (begins : List ℕ) (r : Routine) : Type 0 where
+-- what each start is decoded by: its routine, the image's code, and where the routines before it begin
+pub record Given (image code begins : List ℕ) (r : Routine) : Type 0 where
   pub routine : RoutineOf image r
-  pub own : lengths ≡ lengthsFor (versionOf image)
+  pub own : code ≡ codeOf image
   pub earlier : Begins image begins (r .index)
 
 -- the rows have one for each code byte of any image, and from an offset on nothing is a start yet

@@ -1,6 +1,7 @@
 // The starts of a routine, one after the other.
 ghost use mathlib.Core.Path.{_≡_};
-ghost use Prim.Native.Nat.{_≤_, _<_};
+ghost use mathlib.Core.List.{List};
+ghost use Prim.Native.Nat.{ℕ, _≤_, _<_};
 ghost use Rattle.code.specs.Code.{Start};
 ghost use Rattle.decode_pass.specs.Pass.{Given, NoStarts, RoutineDecoded};
 ghost use Rattle.decode_pass.specs.Internal.{OffEnd, Small, StartDecoded};
@@ -41,19 +42,13 @@ fn refused_start(refusal: u8) -> Decoding
 }
 
 // One start: 8 or 9, then 15, else its cells, and where the next start is.
-fn decode_start(
-    image: &[u8],
-    lengths: &[[u8; 256]; 3],
-    begins: &[u16; 32],
-    r: Routine,
-    at: usize,
-) -> Decoding
+fn decode_start(code: &[u8], begins: &[u16; 32], r: Routine, at: usize) -> Decoding
     requires { ⌜ Small r at ⌝ }
     ensures { λ d. ⌜ (d .refusal ≡ 0 → (at < d .next) × (d .next ≤ r .end)) ⌝ }
-    ensures { λ d. ⌜ (Given (now (image .entry)) (now (lengths .entry)) (now (begins .entry)) r → Start (now (image .entry)) (r .index) at →
-        StartDecoded (now (image .entry)) r at (d .refusal) (d .next) (d .row)) ⌝ }
+    ensures { λ d. ⌜ ((image : List ℕ) → Given image (now (code .entry)) (now (begins .entry)) r → Start image (r .index) at →
+        StartDecoded image r at (d .refusal) (d .next) (d .row)) ⌝ }
 {
-    let d = decode_at(image, lengths, at, r.end);
+    let d = decode_at(code, at, r.end);
     let Decoded::Found(i, n) = d else {
         return refused_start(decoding_number(d));
     };
@@ -73,20 +68,19 @@ fn decode_start(
 
 // Every start, rising, to the routine's end or to the first refusal.
 pub(crate) fn decode_starts(
-    image: &[u8],
-    lengths: &[[u8; 256]; 3],
+    code: &[u8],
     begins: &[u16; 32],
     r: Routine,
     cells: &mut [[u16; 7]; 4096],
 ) -> Refusal
     requires { ⌜ (r .end ≤ 4096) × (r .index ≤ 32) ⌝ }
-    ensures { λ p. ⌜ (Given (now (image .entry)) (now (lengths .entry)) (now (begins .entry)) r → NoStarts (r .start) (now (cells .entry)) →
-        RoutineDecoded (now (image .entry)) r (now (cells .exit)) (p .number) (p .at)) ⌝ }
+    ensures { λ p. ⌜ ((image : List ℕ) → Given image (now (code .entry)) (now (begins .entry)) r → NoStarts (r .start) (now (cells .entry)) →
+        RoutineDecoded image r (now (cells .exit)) (p .number) (p .at)) ⌝ }
 {
     let end = r.end;
     let mut at = r.start;
     while at < end {
-        let d = decode_start(image, lengths, begins, r, at);
+        let d = decode_start(code, begins, r, at);
         if d.refusal != 0 {
             return Refusal {
                 number: d.refusal,

@@ -3,6 +3,8 @@
 mod cells;
 mod decoding;
 
+ghost use mathlib.Core.List.{List};
+ghost use Prim.Native.Nat.{ℕ};
 ghost use Rattle.decode_pass.specs.Pass.{Given, NoStarts, RoutineDecoded};
 use crate::decoding::decode_starts;
 use image::Limits;
@@ -24,14 +26,13 @@ pub struct Refusal {
 
 // The decode pass, to the routine's end or to the first refusal. Where `Given` or `NoStarts` does not hold, the answer and the cells are left free.
 pub fn decode_routine(
-    image: &[u8],
-    lengths: &[[u8; 256]; 3],
+    code: &[u8],
     begins: &[u16; 32],
     r: Routine,
     cells: &mut [[u16; 7]; 4096],
 ) -> Refusal
-    ensures { λ p. ⌜ (Given (now (image .entry)) (now (lengths .entry)) (now (begins .entry)) r → NoStarts (r .start) (now (cells .entry)) →
-        RoutineDecoded (now (image .entry)) r (now (cells .exit)) (p .number) (p .at)) ⌝ }
+    ensures { λ p. ⌜ ((image : List ℕ) → Given image (now (code .entry)) (now (begins .entry)) r → NoStarts (r .start) (now (cells .entry)) →
+        RoutineDecoded image r (now (cells .exit)) (p .number) (p .at)) ⌝ }
 {
     if 4096 < r.end {
         return Refusal {
@@ -45,5 +46,5 @@ pub fn decode_routine(
             at: r.start,
         };
     }
-    decode_starts(image, lengths, begins, r, cells)
+    decode_starts(code, begins, r, cells)
 }

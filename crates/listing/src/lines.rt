@@ -5,9 +5,8 @@ ghost use Prim.Native.Nat.{_+_, _*_, _≤_, _<_};
 ghost use lib.ListN.{length, getD};
 ghost use Rattle.numbers.specs.Ascii.{ascii};
 ghost use Rattle.numbers.specs.Computed.{counting};
-ghost use Rattle.image.specs.Image.{versionOf, baseOf, sizeOf};
+ghost use Rattle.image.specs.Image.{baseOf, sizeOf};
 ghost use Rattle.image.specs.Rules.{ImageRules};
-ghost use Rattle.code.specs.Set.{lengthsFor};
 ghost use Rattle.code.specs.Code.{instructionIn};
 ghost use Rattle.disassembly.specs.Notation.{wordDigits};
 ghost use Rattle.listing.specs.Decimal.{decimal};
@@ -23,7 +22,6 @@ use image::base_of;
 use image::code_at;
 use rules::Verdict;
 use stm8::Decoded;
-use stm8::map_lengths;
 
 // A word and two numbers.
 fn write_figures(buffer: &mut [u8], word: &[u8], a: u16, b: u16) -> usize
@@ -69,15 +67,15 @@ fn push_decoded(
     buffer: &mut [u8],
     at: usize,
     image: &[u8],
-    lengths: &[[u8; 256]; 3],
     size: usize,
     offset: usize,
     address: u16,
 ) -> usize
-    requires { ⌜ (now lengths ≡ lengthsFor (versionOf (now image))) × (size ≡ sizeOf (now image)) × (at + 23 ≤ length (now buffer)) ⌝ }
+    requires { ⌜ ImageRules (now image) × (size ≡ sizeOf (now image)) × (at + 23 ≤ length (now buffer)) ⌝ }
     ensures { λ r. ⌜ Wrote at (now (buffer .entry)) (textAt address (instructionIn (now (image .entry)) offset)) r (now (buffer .exit)) ⌝ }
 {
-    let d = decode_at(image, lengths, offset, size);
+    let code = code_at(image);
+    let d = decode_at(&image[code..], offset, size);
     match d {
         Decoded::Found(i, _) => push_text(buffer, at, address, i),
         Decoded::Outside => at,
@@ -101,12 +99,11 @@ fn push_line(
     buffer: &mut [u8],
     at: usize,
     image: &[u8],
-    lengths: &[[u8; 256]; 3],
     size: usize,
     marks: &[u16],
     offset: usize,
 ) -> usize
-    requires { ⌜ (now lengths ≡ lengthsFor (versionOf (now image))) × (size ≡ sizeOf (now image)) ⌝ }
+    requires { ⌜ ImageRules (now image) × (size ≡ sizeOf (now image)) ⌝ }
     requires { ⌜ (baseOf (now image) + offset < 0x10000) × (at + 35 ≤ length (now buffer)) ⌝ }
     ensures { λ r. ⌜ Wrote at (now (buffer .entry)) (lineAt (now (image .entry)) (now (marks .entry)) offset) r (now (buffer .exit)) ⌝ }
 {
@@ -116,7 +113,7 @@ fn push_line(
     }
     let address = base_of(image) + offset as u16;
     let at = push_front(buffer, at, address, mark - 1);
-    let at = push_decoded(buffer, at, image, lengths, size, offset, address);
+    let at = push_decoded(buffer, at, image, size, offset, address);
     push(buffer, at, b'\n')
 }
 
@@ -126,12 +123,11 @@ pub(crate) fn push_starts(buffer: &mut [u8], at: usize, image: &[u8], marks: &[u
     ensures { λ r. ⌜ Wrote at (now (buffer .entry))
         (flatMap (lineAt (now (image .entry)) (now (marks .entry))) (counting (sizeOf (now (image .entry))) 0)) r (now (buffer .exit)) ⌝ }
 {
-    let lengths = map_lengths();
     let size = image.len() - code_at(image);
     let mut end = at;
     let mut offset = 0;
     while offset < size {
-        end = push_line(buffer, end, image, &lengths, size, marks, offset);
+        end = push_line(buffer, end, image, size, marks, offset);
         offset += 1;
     }
     end

@@ -22,7 +22,7 @@ pub(crate) fn ended(registers: Registers, answer: RunAnswer) -> Ran
     }
 }
 
-// The lengths are built once and lent to each step.
+// The steps of a run, one after the other.
 pub(crate) fn run_valid(
     given: Registers,
     image: &[u8],
@@ -35,7 +35,6 @@ pub(crate) fn run_valid(
     requires passes { ⌜ stepRefusal (now image) limits (now memory) ≡ 0 ⌝ }
     ensures { λ r. ⌜ ran budget (now (image .entry)) limits given (now (memory .entry)) ≡ (r, now (memory .exit)) ⌝ }
 {
-    let lengths = stm8::map_lengths();
     let mut registers = given;
     let mut left = budget;
     let answer = loop {
@@ -45,7 +44,7 @@ pub(crate) fn run_valid(
             }
             break RunAnswer::Spent;
         }
-        let stepped = step_valid(registers, image, layout, limits, memory, &lengths);
+        let stepped = step_valid(registers, image, layout, limits, memory);
         let outcome = stepped.answer;
         registers = stepped.registers;
         match outcome {

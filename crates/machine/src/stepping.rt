@@ -1,10 +1,9 @@
 // A step of an image and limits that are valid.
 ghost use mathlib.Core.Path.{_≡_};
 ghost use Prim.Native.Nat.{_-_};
-ghost use Rattle.image.specs.Image.{versionOf, baseOf, layoutOf};
+ghost use Rattle.image.specs.Image.{baseOf, layoutOf};
 ghost use Rattle.image.specs.Validation.{answer as answerOf};
 ghost use Rattle.image.specs.ValidLayout.{ValidLayout};
-ghost use Rattle.code.specs.Set.{lengthsFor};
 ghost use Rattle.code.specs.Code.{instructionIn};
 ghost use Rattle.storage.specs.Storing.{spTrap};
 ghost use Rattle.machine.specs.Step.{pcTrap, decodingTrap, decodedStep, stepValid, stepRefusal};
@@ -31,15 +30,14 @@ pub(crate) fn validate(image: &[u8], limits: Limits, memory: &[u8]) -> Validated
 }
 
 // What stands at PC.
-fn fetch(image: &[u8], layout: Layout, lengths: &[[u8; 256]; 3], pc: u32) -> Decoded
+fn fetch(image: &[u8], layout: Layout, pc: u32) -> Decoded
     requires valid { ⌜ ValidLayout (now image) layout ⌝ }
     requires inside { ⌜ pcTrap (now image) pc ≡ 0 ⌝ }
-    requires set { ⌜ now lengths ≡ lengthsFor (versionOf (now image)) ⌝ }
     ensures { λ r. ⌜ r ≡ instructionIn (now (image .entry)) (pc - baseOf (now (image .entry))) ⌝ }
 {
+    let code = layout.code;
     decode_at(
-        image,
-        lengths,
+        &image[code..],
         pc as usize - layout.base as usize,
         layout.size,
     )
@@ -63,33 +61,29 @@ fn step_inside(
     layout: Layout,
     limits: Limits,
     memory: &mut [u8],
-    lengths: &[[u8; 256]; 3],
 ) -> Stepped
     requires valid { ⌜ ValidLayout (now image) layout ⌝ }
-    requires set { ⌜ now lengths ≡ lengthsFor (versionOf (now image)) ⌝ }
     requires stack { ⌜ spTrap limits (registers .sp) ≡ 0 ⌝ }
     requires inside { ⌜ pcTrap (now image) (registers .pc) ≡ 0 ⌝ }
     ensures { λ r. ⌜ decodedStep (now (image .entry)) limits registers (now (memory .entry))
         (instructionIn (now (image .entry)) (registers .pc - baseOf (now (image .entry)))) ≡ (r, now (memory .exit)) ⌝ }
 {
-    let decoded = fetch(image, layout, lengths, registers.pc);
+    let decoded = fetch(image, layout, registers.pc);
     let Decoded::Found(i, n) = decoded else {
         return registers.answer(StepAnswer::Trap(decoding_trap(decoded)));
     };
     registers.step(image, limits, memory, i, registers.pc + n as u32)
 }
 
-// One step, by the lengths of the image's op-codes.
+// One step.
 pub(crate) fn step_valid(
     registers: Registers,
     image: &[u8],
     layout: Layout,
     limits: Limits,
     memory: &mut [u8],
-    lengths: &[[u8; 256]; 3],
 ) -> Stepped
     requires valid { ⌜ ValidLayout (now image) layout ⌝ }
-    requires set { ⌜ now lengths ≡ lengthsFor (versionOf (now image)) ⌝ }
     ensures { λ r. ⌜ stepValid (now (image .entry)) limits registers (now (memory .entry)) ≡ (r, now (memory .exit)) ⌝ }
 {
     let pc = registers.pc;
@@ -100,5 +94,5 @@ pub(crate) fn step_valid(
     if trap != 0 {
         return registers.answer(StepAnswer::Trap(trap));
     }
-    step_inside(registers, image, layout, limits, memory, lengths)
+    step_inside(registers, image, layout, limits, memory)
 }

@@ -4,10 +4,10 @@ use Rattle.decode_pass.proofs.decode_routine.Statement.{statement}
 use Rattle.decode_pass.proofs.decode_routine.Tie as tie
 
 returns : tie.Need-returns
-returns c given none = absurd (omega (arith, given .routine .size, c .if1 .taken))
+returns c image given none = absurd (omega (arith, given .routine .size, c .if1 .taken))
 
 returns-2 : tie.Need-returns-2
-returns-2 c given none = absurd (omega (arith, given .routine .index, c .if2 .taken))
+returns-2 c image given none = absurd (omega (arith, given .routine .index, c .if2 .taken))
 
 decode-starts-requires : tie.Need-decode-starts-requires
 decode-starts-requires c κs = (omega (arith, c .before .before .before .if1 .left), omega (arith, c .before .if2 .left))

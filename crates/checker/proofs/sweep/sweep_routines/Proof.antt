@@ -10,14 +10,14 @@ use Rattle.checker.proofs.sweep.sweep_routines.Statement.{statement}
 use Rattle.checker.proofs.sweep.sweep_routines.Tie as tie
 
 abbrev Inv-loop : tie.InvT-loop
-Inv-loop image limits layout lengths begins marks₀ rows₀ depths₀ stack₀ s₀ marks rows depths stack s =
+Inv-loop image limits layout begins marks₀ rows₀ depths₀ stack₀ s₀ marks rows depths stack s =
     Between image limits layout marks s × Clean (s .at) rows depths stack
 
 abbrev μ-loop : tie.MeasureT-loop
-μ-loop image limits layout lengths begins marks₀ rows₀ depths₀ stack₀ s₀ marks rows depths stack s = layout .count - s .index
+μ-loop image limits layout begins marks₀ rows₀ depths₀ stack₀ s₀ marks rows depths stack s = layout .count - s .index
 
 loop-holds : tie.Need-loop-holds Inv-loop μ-loop
-loop-holds c = (between-none (c .before .before .before .pre .3) (c .begun .ensures), zeros-clean _)
+loop-holds c = (between-none (c .before .before .before .pre .2) (c .begun .ensures), zeros-clean _)
 
 routine-at-requires : tie.Need-routine-at-requires Inv-loop μ-loop
 routine-at-requires c κs = let l = c .before .before .before in (l .before .before .before .before .pre .0, c .if1 .taken, l .loop .inv .0 .at)
@@ -29,7 +29,8 @@ check-routine-requires c κs =
     let p = l .before .before .before .before .pre in
     let is = r .routine-at .ensures .1 in
     let routine = r .routine-at .ensures .0 in (
-      record { routine = routine; own = p .1; earlier = λ k below. p .2 k (omega (arith, is .0, r .before .if1 .taken)) },
+      routine,
+      λ k below. p .1 k (omega (arith, is .0, r .before .if1 .taken)),
       rw (is .1) (l .loop .inv .1),
       routine-ready (p .0) (l .loop .inv .0) routine is,
     )
@@ -38,8 +39,8 @@ same-length : tie.Need-same-length Inv-loop μ-loop
 same-length c =
     let x = c .before .before .before .before .before in
     let l = x .before .before .before .before .before .before .before .before .before in
-    x .check-routine .kept .1 .1 .1 .1 .1 .1 .1 .1 .0 ∙ l .loop .inv .0 .passed .size ∙
-    sym (ap length (l .before .before .before .before .pre .3) ∙ length-replicate {A = ℕ} _ 0)
+    x .check-routine .kept .1 .1 .1 .1 .1 .1 .1 .0 ∙ l .loop .inv .0 .passed .size ∙
+    sym (ap length (l .before .before .before .before .pre .2) ∙ length-replicate {A = ℕ} _ 0)
 
 returns : tie.Need-returns Inv-loop μ-loop
 returns c =
@@ -74,7 +75,7 @@ loop-again c =
     )
 
 same-length-2 : tie.Need-same-length-2 Inv-loop μ-loop
-same-length-2 c = let l = c .before .before .before in l .loop .inv .0 .passed .size ∙ sym (ap length (l .before .before .before .before .pre .3) ∙ length-replicate {A = ℕ} _ 0)
+same-length-2 c = let l = c .before .before .before in l .loop .inv .0 .passed .size ∙ sym (ap length (l .before .before .before .before .pre .2) ∙ length-replicate {A = ℕ} _ 0)
 
 returns-2 : tie.Need-returns-2 Inv-loop μ-loop
 returns-2 c = let l = c .before .before .before in swept-ended (l .before .before .before .before .pre .0) (l .loop .inv .0) (c .if1 .left)

@@ -1,46 +1,35 @@
--- `code::offsets::decode_at` meets its contract: the part that is decoded is the code from the offset to the bound, and the lengths are
--- within the map.
-use Prim.Native.Nat.{_+_, _-_}
-use mathlib.Core.Path.{ap, _∙_}
+-- `code::offsets::decode_at` meets its contract: the part that is decoded is the code from the offset to the bound.
+use Prim.Native.Nat.{_-_}
+use mathlib.Core.Path.{sym, ap, _∙_}
 use native.Mathlib.Omega.{arith}
-use lib.ListN.{drop, length-take}
+use lib.ListN.{take, drop, length-take}
 use denote.Ref.{now}
 use borrow.Author.Needs.{needs}
-use Rattle.stm8.specs.Decoding.{decodedBy}
-use Rattle.image.specs.Image.{versionOf, codeAt, codeOf}
-use Rattle.code.proofs.Parts.{part}
-use Rattle.code.proofs.Sets.{lengths-within, decoded-at}
+use Rattle.stm8.specs.Decoding.{decoded}
+use Rattle.stm8.proofs.Longer.{found-within}
+use Rattle.image.specs.Image.{versionOf, codeOf}
+use Rattle.code.specs.Code.{decodedAt}
+use Rattle.code.proofs.Parts.{within}
+use Rattle.code.proofs.Sets.{decoded-for}
 use Rattle.code.proofs.offsets.decode_at.Statement.{statement}
 use Rattle.code.proofs.offsets.decode_at.Tie as tie
 
 returns : tie.Need-returns
-unfolding codeOf
+unfolding decodedAt
 returns c =
     let c2 = c .before .before in
-    let c4 = c2 .before .before in
-    let start = c4 .before .before in
-    let a = start .before .args in
-    let image = now (a .image) in (
-      λ own.
-          c .decode-within .ensures .0 (rw own (lengths-within (versionOf image))) ∙
-          ap (decodedBy (now (a .lengths)))
-          (part image (codeAt image) (a .at) (a .end) _ _ _ (rw (← c4 .before .code-at .ensures .0) (c4 .least .ensures)) (c2 .before .least2 .ensures)
-          (c2 .least3 .ensures)) ∙
-          decoded-at image (λ k. start .shared-slice-known .given k .fits) (now (a .lengths)) own (a .end) (a .at),
+    let a = c2 .before .before .before .args in
+    let code = now (a .code) in
+    let from = c2 .least2 .result in
+    let to = c2 .before .least .result in (
+      λ image own.
+          c .decode .ensures ∙
+          ap decoded (rw (c2 .least2 .ensures, c2 .before .least .ensures) (within code (a .at) (a .end))) ∙
+          ap (λ s. decoded (take (a .end - a .at) (drop (a .at) s))) own ∙ sym (decoded-for (versionOf image) _),
       λ i n found.
-          let here = c .decode-within .ensures .1 i n found in
-          let code = c4 .least .result in
-          let to = c2 .before .least2 .result in
-          let from = c2 .least3 .result in (
+          let here = found-within (take (to - from) (drop from code)) i n (sym (c .decode .ensures) ∙ found) in (
             here .0,
-            omega (
-              arith,
-              here .0,
-              here .1,
-              length-take (code + to - (code + from)) (drop (code + from) image),
-              c2 .before .least2 .ensures,
-              c2 .least3 .ensures,
-            ),
+            omega (arith, here, length-take (to - from) (drop from code), c2 .least2 .ensures, c2 .before .least .ensures),
           ),
     )
 
@@ -50,11 +39,6 @@ decode-at-spec =
     (tie.spec
     (λ c κs. search needs)
     (λ c κs. search needs)
-    (λ c. search needs)
-    (λ c κs. search needs)
-    (λ c κs. search needs)
-    (λ c. search needs)
-    (λ c. search needs)
     (λ c. search needs)
     (λ c. search needs)
     (λ c. search needs)

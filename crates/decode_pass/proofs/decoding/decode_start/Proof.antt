@@ -1,6 +1,7 @@
 -- `decode_pass::decoding::decode_start` meets its contract.
-use Prim.Native.Nat.{_+_, _<_, _≤_}
+use Prim.Native.Nat.{ℕ, _+_, _<_, _≤_}
 use mathlib.Core.Path.{_≡_, sym, ap, _∙_}
+use mathlib.Core.List.{List}
 use native.Mathlib.Omega.{arith}
 use denote.Ref.{now}
 use Rattle.stm8.specs.declared.Decoded.the-variants.{Found}
@@ -12,17 +13,16 @@ use Rattle.decode_pass.proofs.decoding.decode_start.Statement.{statemen
 use Rattle.decode_pass.proofs.decoding.decode_start.Tie as tie
 
 -- what the offset is decoded by
-abbrev GivenAt : tie.Start → Type 0
-GivenAt s = Given (now (s .args .image)) (now (s .args .lengths)) (now (s .args .begins)) (s .args .r)
+abbrev GivenAt : tie.Start → List ℕ → Type 0
+GivenAt s image = Given image (now (s .args .code)) (now (s .args .begins)) (s .args .r)
 
 -- the decoder's answer is what stands at the offset
-answer : (c : tie.After-decode-at) →
+answer : (c : tie.After-decode-at) (image : List ℕ) →
     let s = c .before .before in
-    GivenAt s → c .decode-at .result ≡ instructionAt (now (s .args .image)) (s .args .r .index) (s .args .at)
-answer c given =
+    GivenAt s image → c .decode-at .result ≡ instructionAt image (s .args .r .index) (s .args .at)
+answer c image given =
     let s = c .before .before in
-    let image = now (s .args .image) in
-    c .decode-at .ensures .0 (given .own) ∙
+    c .decode-at .ensures .0 image (given .own) ∙
     ap (λ n. decodedAt image n (s .args .at)) (given .routine .end-is)
 
 returns : tie.Need-returns
@@ -31,15 +31,15 @@ returns c =
     let keys = c .before .before .match .keys2 in
     let number = c .refused-start .ensures ∙ c .before .decoding-number .ensures in (
       λ none. absurd (omega (arith, number-some (d .decode-at .result) keys number)),
-      λ given start. start-undecoded start _ (answer d given) keys number,
+      λ image given start. start-undecoded start _ (answer d image given) keys number,
     )
 
 -- an instruction is found, and ends at the routine's end or before
-found : (c : tie.After-effect-of) →
+found : (c : tie.After-effect-of) (image : List ℕ) →
     let s = c .before .before .before .before .before .before in
-    GivenAt s →
-    instructionAt (now (s .args .image)) (s .args .r .index) (s .args .at) ≡ Found (c .before .before .d .given .0 .0) (c .before .before .d .given .0 .1 .0)
-found c given = sym (answer (c .before .before .before .before) given) ∙ c .before .before .d .given .1
+    GivenAt s image →
+    instructionAt image (s .args .r .index) (s .args .at) ≡ Found (c .before .before .d .given .0 .0) (c .before .before .d .given .0 .1 .0)
+found c image given = sym (answer (c .before .before .before .before) image given) ∙ c .before .before .d .given .1
 
 ends : (c : tie.After-effect-of) →
     let s = c .before .before .before .before .before .before in
@@ -56,8 +56,8 @@ returns-2 c =
     let e = c .before .before .before in
     let number = c .refused-start2 .ensures in (
       λ none. absurd (omega (arith, number)),
-      λ given start.
-          start-off start (given .routine) (found e given) (e .effect-of .ensures) (c .before .before .off-end .ensures) (c .before .if1 .taken) number,
+      λ image given start.
+          start-off start (given .routine) (found e image given) (e .effect-of .ensures) (c .before .before .off-end .ensures) (c .before .if1 .taken) number,
     )
 
 row-of-requires : tie.Need-row-of-requires
@@ -71,9 +71,9 @@ returns-3 c =
     let e = c .before .before .before in
     let s = e .before .before .before .before .before .before in (
       λ none. ends e,
-      λ given start.
-          start-stored start (given .routine) (found e given) (e .effect-of .ensures) (c .before .before .off-end .ensures) (c .before .if1 .left)
-          (c .row-of .ensures (now (s .args .image)) (given .routine) (given .earlier)),
+      λ image given start.
+          start-stored start (given .routine) (found e image given) (e .effect-of .ensures) (c .before .before .off-end .ensures) (c .before .if1 .left)
+          (c .row-of .ensures image (given .routine) (given .earlier)),
     )
 
 pub decode-start-spec : {M : Type 1} → statement M

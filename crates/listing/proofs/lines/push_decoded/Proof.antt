@@ -1,11 +1,14 @@
 -- `listing::lines::push_decoded` meets its contract.
-use Prim.Native.Nat.{ℕ}
+use Prim.Native.Nat.{ℕ, _-_}
 use mathlib.Core.Path.{_≡_, ap, sym, _∙_}
 use mathlib.Core.List.{List}
+use native.Mathlib.Omega.{arith}
+use lib.ListN.{length, take, drop}
 use borrow.Author.Needs.{needs}
+use borrow.Rule.Slice.PartAt.{part-to-end}
 use denote.Ref.{now}
 use Rattle.stm8.specs.declared.Decoded.{Decoded}
-use Rattle.image.specs.Image.{sizeOf}
+use Rattle.image.specs.Image.{codeOf, sizeOf}
 use Rattle.code.specs.Code.{decodedAt, instructionIn}
 use Rattle.listing.proofs.Appending.{wrote-none}
 use Rattle.listing.proofs.lines.push_decoded.Statement.{statement}
@@ -16,33 +19,50 @@ stands : (image : List ℕ) (size offset : ℕ) {d d′ : Decoded} → size ≡ 
     instructionIn image offset ≡ d′
 stands image size offset whole e is = ap (λ n. decodedAt image n offset) (sym whole) ∙ sym e ∙ is
 
+-- the code was cut out of the image
+cut : (c : tie.After-decode-at) →
+    let start = c .before .before .before .before .before in
+    let image = now (start .args .image) in
+    let at = c .before .before .code-at .result in
+    take (length image - at) (drop at image) ≡ codeOf image
+unfolding codeOf
+cut c =
+    let image = now (c .before .before .before .before .before .args .image) in
+    part-to-end image (c .before .before .code-at .result) ∙ ap (λ k. drop k image) (c .before .before .code-at .ensures .0)
+
 returns : tie.Need-returns
 returns c =
-    let c7 = c .before .before .before .before .before .before .before in
-    let c10 = c7 .before .before .before in
-    let a = c10 .args in
-    let found = stands (now (a .image)) (a .size) (a .offset) (c10 .pre .1) (c7 .decode-at .ensures .0 (c10 .pre .0))
+    let d = c .before .before .before .before .before .before .before in
+    let start = d .before .before .before .before .before in
+    let a = start .args in
+    let found = stands (now (a .image)) (a .size) (a .offset) (start .pre .1) (d .decode-at .ensures .0 _ (cut d))
     (c .before .before .before .before .before .d .given .1) in
     rw found (c .before .before .push-text .ensures)
 
 returns-2 : tie.Need-returns-2
 returns-2 c =
-    let c5 = c .before .before .before .before .before in
-    let a = c5 .args in
-    let found = stands (now (a .image)) (a .size) (a .offset) (c5 .pre .1) (c .before .before .decode-at .ensures .0 (c5 .pre .0)) (c .enum-told .given .1) in
+    let d = c .before .before in
+    let start = d .before .before .before .before .before in
+    let a = start .args in
+    let found = stands (now (a .image)) (a .size) (a .offset) (start .pre .1) (d .decode-at .ensures .0 _ (cut d)) (c .enum-told .given .1) in
     rw found (wrote-none _ _)
 
 returns-3 : tie.Need-returns-3
 returns-3 c =
-    let c5 = c .before .before .before .before .before in
-    let a = c5 .args in
-    let found = stands (now (a .image)) (a .size) (a .offset) (c5 .pre .1) (c .before .before .decode-at .ensures .0 (c5 .pre .0)) (c .enum-told2 .given .1) in
+    let d = c .before .before in
+    let start = d .before .before .before .before .before in
+    let a = start .args in
+    let found = stands (now (a .image)) (a .size) (a .offset) (start .pre .1) (d .decode-at .ensures .0 _ (cut d)) (c .enum-told2 .given .1) in
     rw found (wrote-none _ _)
 
 pub push-decoded-spec : {M : Type 1} → statement M
 push-decoded-spec =
     tie.close
     (tie.spec
+    (λ c κs. tt)
+    (λ c. omega (arith, c .before .before .before .pre .0 .end, c .code-at .ensures .0))
+    (λ c. search needs)
+    (λ c. search needs)
     (λ c κs. tt)
     (λ c. search needs)
     (λ c κs. search needs)

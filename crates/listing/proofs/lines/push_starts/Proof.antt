@@ -1,7 +1,7 @@
 -- `listing::lines::push_starts` meets its contract. The loop's invariant: the lines of the code bytes before the offset are written, and there is
 -- room for 35 bytes for each one left.
 use Prim.Native.Nat.{ℕ, _+_, _-_, _*_, _≤_}
-use mathlib.Core.Path.{_≡_, sym, _∙_}
+use mathlib.Core.Path.{_≡_}
 use mathlib.Core.List.{List, flatMap}
 use native.Mathlib.Omega.{arith}
 use denote.Ref.{now}
@@ -9,7 +9,6 @@ use lib.ListN.{length}
 use Rattle.numbers.specs.Computed.{counting}
 use Rattle.image.specs.Image.{codeAt, sizeOf}
 use Rattle.image.specs.Rules.{ImageRules}
-use Rattle.code.proofs.Sets.{lengths-for}
 use Rattle.listing.specs.Listing.{lineAt}
 use Rattle.listing.specs.Internal.{Wrote}
 use Rattle.listing.proofs.Appending.{_then_, wrote-none, lines-next}
@@ -18,42 +17,42 @@ use Rattle.listing.proofs.lines.push_starts.Statement.{statement}
 use Rattle.listing.proofs.lines.push_starts.Tie as tie
 
 abbrev Inv-loop : tie.InvT-loop
-Inv-loop buffer₀ at image marks lengths size end₀ offset₀ buffer end offset =
+Inv-loop buffer₀ at image marks size end₀ offset₀ buffer end offset =
     (offset ≤ size) × Wrote at buffer₀ (flatMap (lineAt image marks) (counting offset 0)) end buffer × (end + 35 * (size - offset) ≤ length buffer)
 
 abbrev μ-loop : tie.MeasureT-loop
-μ-loop buffer₀ at image marks lengths size end₀ offset₀ buffer end offset = size - offset
+μ-loop buffer₀ at image marks size end₀ offset₀ buffer end offset = size - offset
 
 -- the code ends with the image
 code-size : {image : List ℕ} {code : ℕ} → ImageRules image → code ≡ codeAt image → length image - code ≡ sizeOf image
 code-size rules e = omega (arith, rules .end, e)
 
 sub-size : tie.Need-sub-size Inv-loop μ-loop
-sub-size c = omega (arith, c .before .before .before .before .before .pre .0 .end, c .code-at .ensures .0)
+sub-size c = omega (arith, c .before .before .before .before .pre .0 .end, c .code-at .ensures .0)
 
 loop-holds : tie.Need-loop-holds Inv-loop μ-loop
 unfolding flatMap
 loop-holds c =
-    let p = c .before .before .before .before .before .pre in
+    let p = c .before .before .before .before .pre in
     (omega arith, wrote-none _ _, omega (arith, code-size (p .0) (c .code-at .ensures .0)))
 
 push-line-requires : tie.Need-push-line-requires Inv-loop μ-loop
 push-line-requires c κs =
-    let c4 = c .before .before .before .before in
-    let rules = c4 .before .before .before .before .before .pre .0 in
-    let size = code-size rules (c4 .code-at .ensures .0) in
-    ((c4 .before .map-lengths .ensures ∙ sym (lengths-for _), size), (omega (arith, rules .top, size), omega arith))
+    let c3 = c .before .before .before in
+    let rules = c3 .before .before .before .before .pre .0 in
+    let size = code-size rules (c3 .code-at .ensures .0) in
+    ((rules, size), (omega (arith, rules .top, size), omega arith))
 
 loop-again : tie.Need-loop-again Inv-loop μ-loop
 loop-again c =
     let c2 = c .before .before in
-    let c6 = c2 .before .before .before .before in
-    let a = c6 .before .before .before .before .before .before .args in
+    let c5 = c2 .before .before .before in
+    let a = c5 .before .before .before .before .before .args in
     let image = now (a .image) in
     let marks = now (a .marks) in
-    let offset = c6 .loop .offset in (
+    let offset = c5 .loop .offset in (
       omega arith,
-      rw (lines-next (lineAt image marks) offset) (c6 .loop .inv .1 then c2 .push-line .ensures),
+      rw (lines-next (lineAt image marks) offset) (c5 .loop .inv .1 then c2 .push-line .ensures),
       omega (arith, line-size image marks offset),
     )
 
@@ -61,8 +60,8 @@ returns : tie.Need-returns Inv-loop μ-loop
 returns c =
     let c2 = c .before .before in
     let l = c .before .loop in
-    let c7 = c2 .before .before .before .before .before in
-    let all : l .offset ≡ sizeOf (now (c7 .args .image)) = omega (arith, code-size (c7 .pre .0) (c2 .code-at .ensures .0)) in
+    let c6 = c2 .before .before .before .before in
+    let all : l .offset ≡ sizeOf (now (c6 .args .image)) = omega (arith, code-size (c6 .pre .0) (c2 .code-at .ensures .0)) in
     rw all at (l .inv .1)
 
 pub push-starts-spec : {M : Type 1} → statement M
@@ -71,7 +70,6 @@ push-starts-spec =
     (tie.spec
     Inv-loop
     μ-loop
-    (λ c κs. tt)
     (λ c κs. tt)
     sub-size
     loop-holds

@@ -1,32 +1,38 @@
--- `machine::stepping::fetch` meets its contract: the lengths are those of the image's own set.
+-- `machine::stepping::fetch` meets its contract: the layout tells where the image's code begins.
 use Prim.Native.Nat.{_-_}
 use mathlib.Core.Path.{_∙_, ap}
+use lib.ListN.{drop}
 use denote.Ref.{now}
 use borrow.Author.Needs.{needs}
+use borrow.Rule.Slice.PartAt.{part-to-end}
 use Rattle.image.specs.declared.Layout.{Layout}
-use Rattle.image.specs.Image.{layoutOf}
+use Rattle.image.specs.Image.{codeOf, layoutOf}
 use Rattle.code.specs.Code.{decodedAt}
 use Rattle.machine.proofs.StepLaws.{pc-inside}
 use Rattle.machine.proofs.stepping.fetch.Statement.{statement}
 use Rattle.machine.proofs.stepping.fetch.Tie as tie
 
 returns : tie.Need-returns
-unfolding layoutOf
+unfolding codeOf layoutOf
 returns c =
-    let start = c .before .before .before in
+    let start = c .before .before .before .before in
     let a = start .args in
     let image = now (a .image) in
-    c .decode-at .ensures .0 (start .pre .1 .1) ∙
-    ap (λ (l : Layout). decodedAt image (l .size) (a .pc - l .base)) (start .pre .0 .is)
+    let is = start .pre .0 .is in
+    c .decode-at .ensures .0 image (part-to-end image (a .layout .code) ∙ ap (λ (l : Layout). drop (l .code) image) is) ∙
+    ap (λ (l : Layout). decodedAt image (l .size) (a .pc - l .base)) is
 
 pub fetch-spec : {M : Type 1} → statement M
 fetch-spec =
     tie.close
     (tie.spec
     (λ c. search needs)
+    (λ c. search needs)
+    (λ c. search needs)
+    (λ c. search needs)
     (λ c.
-    let start = c .before .before in
+    let start = c .before .before .before in
     let a = start .args in
-    pc-inside (now (a .image)) (a .layout) (start .pre .0 .is) (a .pc) (start .pre .1 .0) .0)
+    pc-inside (now (a .image)) (a .layout) (start .pre .0 .is) (a .pc) (start .pre .1) .0)
     (λ c κs. search needs)
     returns)

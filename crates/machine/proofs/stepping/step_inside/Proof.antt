@@ -31,7 +31,7 @@ next : (c : tie.After-struct-known) →
     c .before .before .before .before .before .before .before .before .args .registers .pc + c .before .before .before .decoded .given .0 .1 .0 < 0x1000000
 next c =
     let start = c .before .before .before .before .before .before .before .before in
-    next-small (now (start .args .image)) (start .args .layout) (start .pre .0) (start .args .registers .pc) (start .pre .1 .1 .1) _ (few (c .before))
+    next-small (now (start .args .image)) (start .args .layout) (start .pre .0) (start .args .registers .pc) (start .pre .1 .1) _ (few (c .before))
 
 returns-2 : tie.Need-returns-2
 returns-2 c =
@@ -40,7 +40,7 @@ returns-2 c =
     let a = c8 .before .before .before .args in
     ap (decodedStep (now (a .image)) (a .limits) (a .registers) (now (a .memory))) (sym (c8 .fetch .ensures) ∙ c6 .decoded .given .1) ∙
     found (now (a .image)) (a .limits) (a .registers) (now (a .memory)) _ _ ∙
-    c .before .before .step .ensures (next (c .before .before .before)) (c8 .before .before .before .pre .1 .1 .0)
+    c .before .before .step .ensures (next (c .before .before .before)) (c8 .before .before .before .pre .1 .0)
 
 pub step-inside-spec : {M : Type 1} → statement M
 step-inside-spec =

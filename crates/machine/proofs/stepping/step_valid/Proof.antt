@@ -22,7 +22,7 @@ trap-is c =
       c .first .ensures,
       c .before .pc-trap .ensures,
       c .before .before .sp-trap .ensures,
-      pc-trap-is (now (a .image)) (a .layout) (start .pre .0 .is) (a .registers .pc),
+      pc-trap-is (now (a .image)) (a .layout) (start .pre .is) (a .registers .pc),
     )
 
 returns : tie.Need-returns
@@ -46,7 +46,7 @@ step-inside-requires c κs =
     let c2 = c .before .before in
     let start = c2 .before .before .before .before .before .before in
     let none = first-zero _ _ (sym (trap-is c2) ∙ c .before .if2 .left) in
-    (start .pre .0, (start .pre .1, none))
+    (start .pre, none)
 
 returns-3 : tie.Need-returns-3
 returns-3 c =
