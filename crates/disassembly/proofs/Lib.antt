@@ -1,4 +1,3 @@
-pub mod Growing
 pub mod Placing
 pub mod Sizes
 pub mod Targets

@@ -9,7 +9,8 @@ use native.Mathlib.Omega.{arith}
 use borrow.Author.Tests.{lt-ltb, le-ltb}
 use lib.ListN.{length, take, drop, length-append}
 use lib.Seq.{take-length}
-use Rattle.disassembly.specs.Notation.{text, placed, longest}
+use Rattle.notation.specs.Writing.{longest}
+use Rattle.disassembly.specs.Text.{text, placed}
 use Rattle.stm8.specs.declared.Instruction.{Instruction}
 use Rattle.disassembly.proofs.Sizes.{text-size}
 use Rattle.disassembly.specs.declared.Written.{Written}

@@ -35,8 +35,10 @@ use Rattle.stm8.specs.declared.FlagOp.{FlagOp}
 use Rattle.stm8.specs.declared.FlagOp.the-variants.{Ccf, Rcf, Rvf, Scf}
 use Rattle.stm8.specs.declared.Instruction.{Instruction}
 use Rattle.stm8.specs.declared.Instruction.the-variants.{Alu, Store, LoadHalf, StoreHalf, Modify, LoadWord, StoreWord, CopyWord, WordAlu, WordModify, Pushw, Popw, Exgw, Mul, Bit, BitJump, Mov, Push, Pop, SubSp, AddSp, Jump, Call, Callr, Ret, Nop, Flag}
-use Rattle.disassembly.specs.Names.{aluName, modifyName, wordAluName, wordModifyName, bitName, testName, conditionName, flagName}
-use Rattle.disassembly.specs.Notation.{wordText, bitPosition, registerText, halfText, operandText, line, target, textBefore, text, longest}
+use Rattle.notation.specs.Names.{aluName, modifyName, wordAluName, wordModifyName, bitName, testName, conditionName, flagName}
+use Rattle.notation.specs.Notation.{wordText, bitPosition, registerText, halfText, operandText, line}
+use Rattle.notation.specs.Writing.{longest}
+use Rattle.disassembly.specs.Text.{target, textBefore, text}
 
 pub length-cond : (t : Bool) (s : List ℕ) → length (cond t s []) ≡ cond t (length s) 0
 length-cond true s = refl

@@ -6,7 +6,7 @@ use native.Mathlib.Decide.{decLt}
 use native.Mathlib.Omega.{arith}
 use borrow.Author.Tests.{lt-ltb, le-ltb}
 use Rattle.stm8.specs.Effects.{relative}
-use Rattle.disassembly.specs.Notation.{target}
+use Rattle.disassembly.specs.Text.{target}
 
 -- unless it jumps to below 0, which `relative` counts as 0
 pub target-relative : (next n : ℕ) → (128 ≤ n → 256 ≤ next + n) → target next n ≡ relative next n % 0x10000

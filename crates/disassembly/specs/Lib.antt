@@ -1,3 +1,1 @@
-pub mod Names
-pub mod Notation
-pub mod Writing
+pub mod Text

@@ -3,44 +3,22 @@ ghost use mathlib.Core.Path.{_≡_};
 ghost use mathlib.Core.Bool.{cond};
 ghost use Prim.Native.Nat.{_+_};
 ghost use lib.Dec.{leb};
-ghost use Rattle.disassembly.specs.Notation.{target as targetOf, text as textOf};
-ghost use Rattle.disassembly.specs.Writing.{Wrote};
-use crate::LONGEST;
-use crate::names::ADDW;
-use crate::names::CALL;
-use crate::names::CALLR;
-use crate::names::EXGW;
-use crate::names::LD;
-use crate::names::LDW;
-use crate::names::MOV;
-use crate::names::MUL;
-use crate::names::NOP;
-use crate::names::POP;
-use crate::names::POPW;
-use crate::names::PUSH;
-use crate::names::PUSHW;
-use crate::names::RET;
-use crate::names::SUB;
-use crate::names::alu_name;
-use crate::names::bit_name;
-use crate::names::condition_name;
-use crate::names::flag_name;
-use crate::names::modify_name;
-use crate::names::test_name;
-use crate::names::word_alu_name;
-use crate::names::word_modify_name;
-use crate::writing::address;
-use crate::writing::half;
-use crate::writing::letter;
-use crate::writing::named;
-use crate::writing::operand;
-use crate::writing::other;
-use crate::writing::position;
-use crate::writing::register;
-use crate::writing::stack_pointer;
+ghost use Rattle.notation.specs.Writing.{Wrote};
+ghost use Rattle.disassembly.specs.Text.{target as targetOf, text as textOf};
 use effects::relative;
+use notation::LONGEST;
+use notation::lines;
+use notation::names;
+use notation::names::alu_name;
+use notation::names::bit_name;
+use notation::names::condition_name;
+use notation::names::flag_name;
+use notation::names::modify_name;
+use notation::names::test_name;
+use notation::names::word_alu_name;
+use notation::names::word_modify_name;
 use stm8::Instruction;
-use stm8::Operand;
+use stm8::Register;
 
 // The target of a jump of so many bytes at an address.
 fn target(address: u16, length: u8, n: u8) -> u16
@@ -62,62 +40,38 @@ pub fn text_of(i: Instruction, here: u16, t: &mut [u8; LONGEST]) -> usize
     ensures { λ r. ⌜ Wrote 0 (now (t .entry)) (textOf here i) r (now (t .exit)) ⌝ }
 {
     match i {
-        Instruction::Alu(o, x) => operand(letter(named(alu_name(o), t), b' ', b'A', t), b',', x, t),
-        Instruction::Store(x) => letter(operand(named(LD, t), b' ', x, t), b',', b'A', t),
-        Instruction::LoadHalf(r, h) => half(letter(named(LD, t), b' ', b'A', t), b',', r, h, t),
-        Instruction::StoreHalf(r, h) => letter(half(named(LD, t), b' ', r, h, t), b',', b'A', t),
-        Instruction::Modify(o, x) => operand(named(modify_name(o), t), b' ', x, t),
-        Instruction::LoadWord(r, x) => operand(register(named(LDW, t), b' ', r, t), b',', x, t),
-        Instruction::StoreWord(r, x) => register(operand(named(LDW, t), b' ', x, t), b',', r, t),
-        Instruction::CopyWord(r) => other(register(named(LDW, t), b' ', r, t), b',', r, t),
-        Instruction::WordAlu(o, r, w) => operand(
-            register(named(word_alu_name(o), t), b' ', r, t),
-            b',',
-            Operand::ImmediateWord(w),
-            t,
-        ),
-        Instruction::WordModify(o, r) => register(named(word_modify_name(o), t), b' ', r, t),
-        Instruction::Pushw(r) => register(named(PUSHW, t), b' ', r, t),
-        Instruction::Popw(r) => register(named(POPW, t), b' ', r, t),
-        Instruction::Exgw => letter(letter(named(EXGW, t), b' ', b'X', t), b',', b'Y', t),
-        Instruction::Mul(r) => letter(register(named(MUL, t), b' ', r, t), b',', b'A', t),
-        Instruction::Bit(o, n, w) => position(
-            address(named(bit_name(o), t), b' ', w, t),
-            b',',
+        Instruction::Alu(o, x) => lines::accumulator_operand(alu_name(o), x, t),
+        Instruction::Store(x) => lines::operand_accumulator(names::LD, x, t),
+        Instruction::LoadHalf(r, h) => lines::accumulator_half(names::LD, r, h, t),
+        Instruction::StoreHalf(r, h) => lines::half_accumulator(names::LD, r, h, t),
+        Instruction::Modify(o, x) => lines::operand(modify_name(o), x, t),
+        Instruction::LoadWord(r, x) => lines::register_operand(names::LDW, r, x, t),
+        Instruction::StoreWord(r, x) => lines::operand_register(names::LDW, x, r, t),
+        Instruction::CopyWord(r) => lines::both_registers(names::LDW, r, t),
+        Instruction::WordAlu(o, r, w) => lines::register_immediate(word_alu_name(o), r, w, t),
+        Instruction::WordModify(o, r) => lines::register(word_modify_name(o), r, t),
+        Instruction::Pushw(r) => lines::register(names::PUSHW, r, t),
+        Instruction::Popw(r) => lines::register(names::POPW, r, t),
+        Instruction::Exgw => lines::both_registers(names::EXGW, Register::X, t),
+        Instruction::Mul(r) => lines::register_accumulator(names::MUL, r, t),
+        Instruction::Bit(o, n, w) => lines::address_bit(bit_name(o), w, n, t),
+        Instruction::BitJump(o, n, w, j) => lines::address_bit_address(
+            test_name(o),
+            w,
             n,
-            t,
-        ),
-        Instruction::BitJump(o, n, w, j) => address(
-            position(address(named(test_name(o), t), b' ', w, t), b',', n, t),
-            b',',
             target(here, bit_jump_length(n), j),
             t,
         ),
-        Instruction::Mov(to, from) => operand(operand(named(MOV, t), b' ', to, t), b',', from, t),
-        Instruction::Push(x) => operand(named(PUSH, t), b' ', x, t),
-        Instruction::Pop(x) => operand(named(POP, t), b' ', x, t),
-        Instruction::SubSp(n) => operand(
-            stack_pointer(named(SUB, t), b' ', t),
-            b',',
-            Operand::Immediate(n),
-            t,
-        ),
-        Instruction::AddSp(n) => operand(
-            stack_pointer(named(ADDW, t), b' ', t),
-            b',',
-            Operand::Immediate(n),
-            t,
-        ),
-        Instruction::Jump(o, n) => address(
-            named(condition_name(o), t),
-            b' ',
-            target(here, 2, n),
-            t,
-        ),
-        Instruction::Call(w) => address(named(CALL, t), b' ', w, t),
-        Instruction::Callr(n) => address(named(CALLR, t), b' ', target(here, 2, n), t),
-        Instruction::Ret => named(RET, t),
-        Instruction::Nop => named(NOP, t),
-        Instruction::Flag(o) => named(flag_name(o), t),
+        Instruction::Mov(to, from) => lines::two_operands(names::MOV, to, from, t),
+        Instruction::Push(x) => lines::operand(names::PUSH, x, t),
+        Instruction::Pop(x) => lines::operand(names::POP, x, t),
+        Instruction::SubSp(n) => lines::stack_pointer_immediate(names::SUB, n, t),
+        Instruction::AddSp(n) => lines::stack_pointer_immediate(names::ADDW, n, t),
+        Instruction::Jump(o, n) => lines::address(condition_name(o), target(here, 2, n), t),
+        Instruction::Call(w) => lines::address(names::CALL, w, t),
+        Instruction::Callr(n) => lines::address(names::CALLR, target(here, 2, n), t),
+        Instruction::Ret => lines::named(names::RET, t),
+        Instruction::Nop => lines::named(names::NOP, t),
+        Instruction::Flag(o) => lines::named(flag_name(o), t),
     }
 }

@@ -1,16 +1,11 @@
 // The text of an instruction in the manual's assembler column notation.
 mod instructions;
-mod names;
-mod writing;
 
 ghost use mathlib.Core.Path.{_≡_};
-ghost use Rattle.disassembly.specs.Notation.{text as textOf, placed};
+ghost use Rattle.disassembly.specs.Text.{text as textOf, placed};
 use instructions::text_of;
+pub use notation::LONGEST;
 use stm8::Instruction;
-pub use writing::hex_digit;
-
-// No text is longer.
-pub const LONGEST: usize = 23;
 
 // How many bytes were written, or that the buffer has no room for them.
 pub enum Written {

@@ -12,7 +12,7 @@ use Rattle.execution.specs.declared.Registers.{Registers}
 use Rattle.stm8.specs.declared.Instruction.{Instruction}
 use Rattle.stm8.specs.declared.Decoded.{Decoded}
 use Rattle.stm8.specs.declared.Decoded.the-variants.{Found, Outside, Truncated}
-use Rattle.disassembly.specs.Notation.{text}
+use Rattle.disassembly.specs.Text.{text}
 
 -- the four addresses of limits
 abbrev pub limitsBy : ℕ → ℕ → ℕ → ℕ → Limits

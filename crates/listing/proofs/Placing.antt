@@ -12,7 +12,7 @@ use lib.Seq.{sets-eq}
 use Rattle.numbers.specs.Computed.{counting}
 use Rattle.numbers.proofs.Checking.{by-cond}
 use Rattle.stm8.specs.declared.Instruction.{Instruction}
-use Rattle.disassembly.specs.Notation.{text, placed}
+use Rattle.disassembly.specs.Text.{text, placed}
 use Rattle.disassembly.specs.declared.Written.{Written}
 use Rattle.disassembly.specs.declared.Written.the-variants.{Bytes, TooShort}
 use Rattle.disassembly.proofs.Placing.{text-placed}

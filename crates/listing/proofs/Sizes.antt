@@ -10,7 +10,7 @@ use Rattle.numbers.specs.Ascii.{ascii}
 use Rattle.numbers.specs.Computed.{counting}
 use Rattle.stm8.specs.declared.Decoded.{Decoded}
 use Rattle.stm8.specs.declared.Decoded.the-variants.{Found, Outside, Truncated}
-use Rattle.disassembly.specs.Notation.{wordDigits}
+use Rattle.notation.specs.Notation.{wordDigits}
 use Rattle.disassembly.proofs.Sizes.{text-size}
 use Rattle.image.specs.Image.{baseOf, sizeOf, limitsOf}
 use Rattle.code.specs.Code.{instructionIn}

@@ -8,7 +8,8 @@ use Rattle.numbers.specs.Ascii.{ascii}
 use Rattle.numbers.specs.Computed.{counting}
 use Rattle.stm8.specs.declared.Decoded.{Decoded}
 use Rattle.stm8.specs.declared.Decoded.the-variants.{Found, Outside, Truncated}
-use Rattle.disassembly.specs.Notation.{wordDigits, text}
+use Rattle.notation.specs.Notation.{wordDigits}
+use Rattle.disassembly.specs.Text.{text}
 use Rattle.disassembly.specs.declared.Written.{Written}
 use Rattle.disassembly.specs.declared.Written.the-variants.{Bytes, TooShort}
 use Rattle.image.specs.Image.{baseOf, sizeOf, limitsOf}

@@ -8,7 +8,7 @@ ghost use Rattle.numbers.specs.Computed.{counting};
 ghost use Rattle.image.specs.Image.{baseOf, sizeOf};
 ghost use Rattle.image.specs.Rules.{ImageRules};
 ghost use Rattle.code.specs.Code.{instructionIn};
-ghost use Rattle.disassembly.specs.Notation.{wordDigits};
+ghost use Rattle.notation.specs.Notation.{wordDigits};
 ghost use Rattle.listing.specs.Decimal.{decimal};
 ghost use Rattle.listing.specs.Listing.{lineFeed, verdictLine, textAt, lineAt};
 ghost use Rattle.listing.specs.Internal.{Wrote};

@@ -2,12 +2,13 @@
 ghost use mathlib.Core.List.{[], _∷_};
 ghost use Prim.Native.Nat.{_+_, _≤_, _<_};
 ghost use lib.ListN.{length};
-ghost use Rattle.disassembly.specs.Notation.{byteDigits, wordDigits, text as textOf};
+ghost use Rattle.notation.specs.Notation.{byteDigits, wordDigits};
+ghost use Rattle.disassembly.specs.Text.{text as textOf};
 ghost use Rattle.listing.specs.Decimal.{leading as leadingOf, lastDigit, decimal as decimalOf};
 ghost use Rattle.listing.specs.Internal.{Wrote};
 use disassembly::Written;
 use disassembly::disassemble;
-use disassembly::hex_digit;
+use notation::hex_digit;
 use numbers::words;
 use stm8::Instruction;
 

@@ -2,7 +2,7 @@
 use Prim.Native.Nat.{ℕ, _/_, _%_}
 use mathlib.Core.List.{List, _++_}
 use Rattle.numbers.specs.Ascii.{ascii}
-use Rattle.disassembly.specs.Notation.{byteDigits, wordDigits}
+use Rattle.notation.specs.Notation.{byteDigits, wordDigits}
 use Rattle.execution.specs.declared.Registers.{Registers}
 
 -- PC by the 24 bits that document 01 gives it

@@ -2,11 +2,11 @@
 ghost use mathlib.Core.Path.{_≡_};
 ghost use Prim.Native.Nat.{_≤_};
 ghost use lib.Seq.{sets};
-ghost use Rattle.disassembly.specs.Notation.{byteDigits, wordDigits};
+ghost use Rattle.notation.specs.Notation.{byteDigits, wordDigits};
 ghost use Rattle.vectors.specs.Bytes.{registersOf, withCells};
 ghost use Rattle.vectors.specs.Text.{registersText};
-use disassembly::hex_digit;
 use machine::Registers;
+use notation::hex_digit;
 use numbers::words::byte_at;
 use numbers::words::high;
 use numbers::words::low;

@@ -6,8 +6,8 @@ use denote.Ref.{now}
 use lib.ListN.{length, take}
 use lib.Seq.{length-take-le}
 use borrow.Author.Needs.{needs}
-use Rattle.disassembly.specs.Notation.{text}
-use Rattle.disassembly.proofs.Growing.{Holds, written-holds}
+use Rattle.disassembly.specs.Text.{text}
+use Rattle.notation.proofs.Growing.{Holds, written-holds}
 use Rattle.disassembly.proofs.Placing.{placed-short, placed-copy}
 use Rattle.disassembly.proofs.Sizes.{text-size}
 use Rattle.disassembly.proofs.disassemble.Statement.{statement}

@@ -1,7 +1,7 @@
 -- `disassembly::instructions::target` meets its contract.
 use native.Mathlib.Nat.{add-assoc}
 use borrow.Author.Needs.{needs}
-use Rattle.disassembly.specs.Notation.{target}
+use Rattle.disassembly.specs.Text.{target}
 use Rattle.disassembly.proofs.instructions.target.Statement.{statement}
 use Rattle.disassembly.proofs.instructions.target.Tie as tie
 

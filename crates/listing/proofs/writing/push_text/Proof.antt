@@ -6,7 +6,7 @@ use borrow.Author.Needs.{needs}
 use borrow.Rule.Slice.PartAt.{part-to-end}
 use native.Mathlib.Omega.{arith}
 use denote.Ref.{now}
-use Rattle.disassembly.specs.Notation.{text}
+use Rattle.disassembly.specs.Text.{text}
 use Rattle.disassembly.proofs.Sizes.{text-size}
 use Rattle.listing.proofs.Appending.{wrote-part}
 use Rattle.listing.proofs.Placing.{text-written, text-fits}

@@ -1,0 +1,15 @@
+-- `notation::names::word_modify_name` meets its contract.
+use borrow.Author.Needs.{needs}
+use Rattle.notation.proofs.names.word_modify_name.Statement.{statement}
+use Rattle.notation.proofs.names.word_modify_name.Tie as tie
+
+pub word-modify-name-spec : {M : Type 1} → statement M
+word-modify-name-spec =
+    tie.close
+    (tie.spec
+    (λ c. search needs)
+    (λ c. search needs)
+    (λ c. search needs)
+    (λ c. rw (c .enum-told .given .1))
+    (λ c. rw (c .enum-told2 .given .1))
+    (λ c. rw (c .enum-told3 .given .1)))
