@@ -28,39 +28,34 @@ impl Registers {
         }
     }
 
+    // One call reads for every addressing form, here and below: so the functions are small enough to be put in line.
     pub(crate) fn operand_byte(self, image: &[u8], memory: &[u8], x: Operand) -> u8
         ensures { λ r. ⌜ r ≡ byteOf (now (image .entry)) (now (memory .entry)) self x ⌝ }
     {
-        match x {
-            Operand::Accumulator => self.a,
-            Operand::Immediate(n) => n,
-            Operand::ImmediateWord(_) => 0,
-            Operand::Short(a) => read_byte(image, memory, a as u32),
-            Operand::Long(a) => read_byte(image, memory, a as u32),
-            Operand::Indexed(r, f) => read_byte(
-                image,
-                memory,
-                self.index(r) as u32 + offset_of(f) as u32,
-            ),
-            Operand::Sp(f) => read_byte(image, memory, self.sp as u32 + f as u32),
-        }
+        let address = match x {
+            Operand::Accumulator => return self.a,
+            Operand::Immediate(n) => return n,
+            Operand::ImmediateWord(_) => return 0,
+            Operand::Short(a) => a as u32,
+            Operand::Long(a) => a as u32,
+            Operand::Indexed(r, f) => self.index(r) as u32 + offset_of(f) as u32,
+            Operand::Sp(f) => self.sp as u32 + f as u32,
+        };
+        read_byte(image, memory, address)
     }
 
     pub(crate) fn operand_word(self, image: &[u8], memory: &[u8], x: Operand) -> u16
         ensures { λ r. ⌜ r ≡ wordOf (now (image .entry)) (now (memory .entry)) self x ⌝ }
     {
-        match x {
-            Operand::Accumulator => 0,
-            Operand::Immediate(_) => 0,
-            Operand::ImmediateWord(w) => w,
-            Operand::Short(a) => read_word(image, memory, a as u32),
-            Operand::Long(a) => read_word(image, memory, a as u32),
-            Operand::Indexed(r, f) => read_word(
-                image,
-                memory,
-                self.index(r) as u32 + offset_of(f) as u32,
-            ),
-            Operand::Sp(f) => read_word(image, memory, self.sp as u32 + f as u32),
-        }
+        let address = match x {
+            Operand::Accumulator => return 0,
+            Operand::Immediate(_) => return 0,
+            Operand::ImmediateWord(w) => return w,
+            Operand::Short(a) => a as u32,
+            Operand::Long(a) => a as u32,
+            Operand::Indexed(r, f) => self.index(r) as u32 + offset_of(f) as u32,
+            Operand::Sp(f) => self.sp as u32 + f as u32,
+        };
+        read_word(image, memory, address)
     }
 }

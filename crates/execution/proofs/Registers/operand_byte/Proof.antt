@@ -1,4 +1,5 @@
--- `execution::Registers::operand_byte` meets its contract.
+-- `execution::Registers::operand_byte` meets its contract: by the way in which the address came.
+use mathlib.Core.Logic.{⊎-elim}
 use borrow.Author.Needs.{needs}
 use Rattle.execution.proofs.Registers.operand_byte.Statement.{statement}
 use Rattle.execution.proofs.Registers.operand_byte.Tie as tie
@@ -12,26 +13,29 @@ operand-byte-spec =
     (λ c. search needs)
     (λ c. search needs)
     (λ c. search needs)
-    (λ c κs. search needs)
+    (λ c. search needs)
+    (λ c. search needs)
+    (λ c. search needs)
+    (λ c. search needs)
     (λ c. search needs)
     (λ c. search needs)
     (λ c κs. search needs)
     (λ c. search needs)
     (λ c κs. search needs)
     (λ c. search needs)
-    (λ c κs. search needs)
     (λ c. search needs)
-    (λ c. search needs)
-    (λ c κs. search needs)
     (λ c. search needs)
     (λ c. search needs)
     (λ c. search needs)
     (λ c. search needs)
     (λ c κs. search needs)
-    (λ c. search needs)
-    (λ c. search needs)
-    (λ c. search needs)
-    (λ c. rw (c .read-byte .ensures, c .before .before .x2 .given .1))
-    (λ c. rw (c .read-byte2 .ensures, c .before .before .x3 .given .1))
-    (λ c. rw (c .read-byte3 .ensures, c .before .offset-of .ensures, c .before .before .index .ensures, c .before .before .before .before .x4 .given .1))
-    (λ c. rw (c .read-byte4 .ensures, c .before .before .before .x5 .given .1)))
+    (λ c.
+    rw (c .read-byte .ensures)
+    (⊎-elim
+    (λ w. rw (w .3, w .1 .given .1))
+    (⊎-elim
+    (λ w. rw (w .3, w .1 .given .1))
+    (⊎-elim
+    (λ w. rw (w .5, w .4 .ensures, w .3 .ensures, w .1 .given .1))
+    (λ w. rw (w .4, w .1 .given .1))))
+    (c .before .match .came))))

@@ -1,4 +1,5 @@
--- `execution::Registers::operand_word` meets its contract.
+-- `execution::Registers::operand_word` meets its contract: by the way in which the address came.
+use mathlib.Core.Logic.{⊎-elim}
 use borrow.Author.Needs.{needs}
 use Rattle.execution.proofs.Registers.operand_word.Statement.{statement}
 use Rattle.execution.proofs.Registers.operand_word.Tie as tie
@@ -12,26 +13,29 @@ operand-word-spec =
     (λ c. search needs)
     (λ c. search needs)
     (λ c. search needs)
-    (λ c κs. search needs)
+    (λ c. search needs)
+    (λ c. search needs)
+    (λ c. search needs)
+    (λ c. search needs)
     (λ c. search needs)
     (λ c. search needs)
     (λ c κs. search needs)
     (λ c. search needs)
     (λ c κs. search needs)
     (λ c. search needs)
-    (λ c κs. search needs)
     (λ c. search needs)
-    (λ c. search needs)
-    (λ c κs. search needs)
     (λ c. search needs)
     (λ c. search needs)
     (λ c. search needs)
     (λ c. search needs)
     (λ c κs. search needs)
-    (λ c. search needs)
-    (λ c. search needs)
-    (λ c. search needs)
-    (λ c. rw (c .read-word .ensures, c .before .before .x2 .given .1))
-    (λ c. rw (c .read-word2 .ensures, c .before .before .x3 .given .1))
-    (λ c. rw (c .read-word3 .ensures, c .before .offset-of .ensures, c .before .before .index .ensures, c .before .before .before .before .x4 .given .1))
-    (λ c. rw (c .read-word4 .ensures, c .before .before .before .x5 .given .1)))
+    (λ c.
+    rw (c .read-word .ensures)
+    (⊎-elim
+    (λ w. rw (w .3, w .1 .given .1))
+    (⊎-elim
+    (λ w. rw (w .3, w .1 .given .1))
+    (⊎-elim
+    (λ w. rw (w .5, w .4 .ensures, w .3 .ensures, w .1 .given .1))
+    (λ w. rw (w .4, w .1 .given .1))))
+    (c .before .match .came))))
