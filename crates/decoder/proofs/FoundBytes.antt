@@ -12,7 +12,8 @@ use Rattle.stm8.specs.OpcodeMap.{Entry, Blank, Is}
 use Rattle.stm8.specs.Decoding.{pageOf, precodes, entryIn, foundAs, tableOf}
 use Rattle.stm8.specs.declared.Instruction.{Instruction}
 use Rattle.stm8.specs.declared.Decoded.the-variants.{Found, Outside, Truncated}
-use Rattle.decoder.specs.Parts.{orElse, decodedOr, decodedByOr}
+use Rattle.opcodes.specs.Entries.{orElse}
+use Rattle.decoder.specs.Parts.{decodedOr, decodedByOr}
 
 module _ {i : Instruction} {n : ℕ} where
   by-tests : (room m : ℕ) (e : Entry) (cut empty short : Bool) → eqb m 0 ≡ empty → ltb room m ≡ short →

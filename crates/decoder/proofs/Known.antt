@@ -19,7 +19,8 @@ use Rattle.stm8.specs.declared.Decoded.{Decoded}
 use Rattle.stm8.specs.declared.Decoded.the-variants.{Found, Outside, Truncated}
 use Rattle.stm8.proofs.Lengths.{lengths-hold}
 use Rattle.decoder.specs.Tables.{WithinMap}
-use Rattle.decoder.specs.Parts.{orElse, decodedOr, decodedByOr}
+use Rattle.opcodes.specs.Entries.{orElse}
+use Rattle.decoder.specs.Parts.{decodedOr, decodedByOr}
 
 -- an entry that has a length only if it is not blank
 settled : (i : Instruction) (e : Entry) (n room : ℕ) → (e ≡ Blank → n ≡ 0) → sized n (Is (orElse i e)) room ≡ sized n e room

@@ -1,4 +1,3 @@
-pub mod Arms
 pub mod Operands
 pub mod Sizes
 pub mod Selected

@@ -9,11 +9,7 @@ ghost use Rattle.decoder.specs.Tables.{WithinMap};
 ghost use Rattle.decoder.specs.Parts.{decodedByOr};
 
 mod lengths;
-mod operations;
 mod pages;
-mod prefixed;
-mod rows;
-mod shared;
 
 use lengths::after_72_length;
 use lengths::after_90_length;
