@@ -22,7 +22,7 @@ module _ (version : ℕ) where
   unfolding decodedFor decoded
   decoded-for s = let page = pageOf (getD s 0 0) in ap (λ e. decodedIn page (lengthOf e) s) (all-allowed (entryIn page s))
 
-  lengths-for : lengthsFor version ≡ mapLengths
+  pub lengths-for : lengthsFor version ≡ mapLengths
   unfolding lengthsFor lengths
   lengths-for = refl
 

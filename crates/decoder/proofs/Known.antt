@@ -18,8 +18,8 @@ use Rattle.stm8.specs.declared.Instruction.{Instruction}
 use Rattle.stm8.specs.declared.Decoded.{Decoded}
 use Rattle.stm8.specs.declared.Decoded.the-variants.{Found, Outside, Truncated}
 use Rattle.stm8.proofs.Lengths.{lengths-hold}
-use Rattle.decoder.specs.Tables.{WithinMap}
-use Rattle.decoder.specs.Parts.{orElse, decodedOr, decodedByOr}
+use Rattle.opcodes.specs.Entries.{orElse}
+use Rattle.decoder.specs.Parts.{decodedOr, decodedByOr}
 
 -- an entry that has a length only if it is not blank
 settled : (i : Instruction) (e : Entry) (n room : ℕ) → (e ≡ Blank → n ≡ 0) → sized n (Is (orElse i e)) room ≡ sized n e room
@@ -39,13 +39,6 @@ module _ (s : List ℕ) (bytes : Bytes s) (page : Page) where
   pub by-own : {r : Decoded} {n : ℕ} → n ≡ getD (lengths page) (getD s (precodes page) 0) 0 → (i : Instruction) × (r ≡ decodedOr i page n s) →
       r ≡ decodedIn page (lengthOf (entryIn page s)) s
   by-own {n = n} is d = d .1 ∙ as-decoded (d .0) n (λ e. is ∙ e) ∙ ap (λ m. decodedIn page m s) (is ∙ own)
-
--- tables within the map
-pub by-tables : (tables : List (List ℕ)) → WithinMap tables → (s : List ℕ) → Bytes s → (i : Instruction) → decodedByOr i tables s ≡ decodedBy tables s
-unfolding WithinMap decodedByOr decodedBy
-by-tables tables within s bytes i =
-    let page = pageOf (getD s 0 0) in
-    as-decoded s bytes page i _ (within page (getD s (precodes page) 0) (bytes (precodes page)))
 
 -- an op-code of the map has a length: the computed test
 has-length : (page : Page) (a b c d op : ℕ) → op < 256 → lengthOf (entry page op a b c d) ≡ 0 → entry page op a b c d ≡ Blank

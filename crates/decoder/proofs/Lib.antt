@@ -1,6 +1,4 @@
-pub mod Arms
 pub mod Operands
 pub mod Sizes
 pub mod Selected
 pub mod Known
-mod FoundBytes

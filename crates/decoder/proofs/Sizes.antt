@@ -10,7 +10,8 @@ use Rattle.stm8.specs.declared.Instruction.{Instruction}
 use Rattle.stm8.specs.declared.Instruction.the-variants.{Nop}
 use Rattle.stm8.specs.declared.Decoded.{Decoded}
 use Rattle.stm8.specs.declared.Decoded.the-variants.{Found, Outside, Truncated}
-use Rattle.decoder.specs.Parts.{orElse, decodedOr}
+use Rattle.opcodes.specs.Entries.{orElse}
+use Rattle.decoder.specs.Parts.{decodedOr}
 
 module _ (page : Page) (s : List ℕ) (n : ℕ) where
   abbrev pub Decodes : Decoded → Type 0

@@ -1,27 +1,15 @@
--- What the parts of decoding answer: a row, a page, bytes on a page, by lent tables; and the lengths of a row. No public contract cites it.
-use Prim.Native.Nat.{ℕ, _+_, _*_, _%_}
+-- What the parts of decoding answer: bytes on a page, by lent tables; and the lengths of a row. No public contract cites it.
+use Prim.Native.Nat.{ℕ, _+_, _*_}
 use mathlib.Core.List.{List, [], _∷_, map}
 use mathlib.Core.Bool.{cond}
 use lib.Dec.{leb}
 use lib.ListN.{length, getD}
-use Rattle.stm8.specs.OpcodeMap.{Page, Entry, Blank, Is, rows, entry}
+use Rattle.stm8.specs.OpcodeMap.{Page, Is, rows}
 use Rattle.stm8.specs.Decoding.{pageOf, precodes, entryIn, lengthOf, sized, tableOf}
 use Rattle.stm8.specs.declared.Instruction.{Instruction}
 use Rattle.stm8.specs.declared.Decoded.{Decoded}
 use Rattle.stm8.specs.declared.Decoded.the-variants.{Truncated}
-
--- the instruction of an entry, or the one given where it is blank: `r ≡ orElse r e` says that r is what stands at e, if anything does
-abbrev pub orElse : Instruction → Entry → Instruction
-orElse i Blank = i
-orElse i (Is j) = j
-
--- at an op-code of a row, whose low digit is the column
-unfoldable pub inRow : List Entry → ℕ → Instruction → Instruction
-inRow row op i = orElse i (getD row (op % 16) Blank)
-
--- at an op-code of a page, with the bytes after it
-unfoldable pub onPage : Page → ℕ → ℕ → ℕ → ℕ → ℕ → Instruction → Instruction
-onPage page op a b c d i = orElse i (entry page op a b c d)
+use Rattle.opcodes.specs.Entries.{orElse}
 
 -- the bytes on a page whose op-code has n bytes, where a blank entry counts as i
 unfoldable pub decodedOr : Instruction → Page → ℕ → List ℕ → Decoded

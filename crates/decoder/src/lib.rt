@@ -1,19 +1,11 @@
 // Decoding: the instruction at the front of a slice, an op-code outside the set, or bytes that end too soon.
 ghost use mathlib.Core.Path.{_≡_};
-ghost use Prim.Native.Nat.{ℕ, _<_, _≤_};
-ghost use lib.ListN.{length};
 ghost use Rattle.stm8.specs.Decoding.{decoded, decodedBy, decodingNumber};
 ghost use Rattle.stm8.specs.declared.Instruction.{Instruction};
-ghost use Rattle.stm8.specs.declared.Decoded.the-variants.{Found};
-ghost use Rattle.decoder.specs.Tables.{WithinMap};
 ghost use Rattle.decoder.specs.Parts.{decodedByOr};
 
 mod lengths;
-mod operations;
 mod pages;
-mod prefixed;
-mod rows;
-mod shared;
 
 use lengths::after_72_length;
 use lengths::after_90_length;
@@ -22,7 +14,7 @@ use lengths::plain_length;
 use numbers::words::byte_at;
 use stm8::Decoded;
 
-// By the map's own lengths.
+// By the map's own lengths: no second test tells whether the map has the op-code.
 pub fn decode(bytes: &[u8]) -> Decoded
     ensures { λ r. ⌜ r ≡ decoded (now (bytes .entry)) ⌝ }
 {
@@ -48,15 +40,6 @@ fn decode_any(bytes: &[u8], lengths: &[[u8; 256]; 3]) -> Decoded
         return pages::after_90(bytes, opcode_length(byte_at(bytes, 1), &lengths[2]));
     }
     pages::plain(bytes, opcode_length(first, &lengths[0]))
-}
-
-// By tables that are within the map, as those of an image's version are: no second test then tells whether the map has the op-code.
-// By any tables what is found has bytes, all of them there. Whoever decodes much asks for the tables once and lends them.
-pub fn decode_within(bytes: &[u8], lengths: &[[u8; 256]; 3]) -> Decoded
-    ensures { λ r. ⌜ (WithinMap (now (lengths .entry)) → r ≡ decodedBy (now (lengths .entry)) (now (bytes .entry))) ⌝ }
-    ensures { λ r. ⌜ ((i : Instruction) (n : ℕ) → r ≡ Found i n → (0 < n) × (n ≤ length (now (bytes .entry)))) ⌝ }
-{
-    decode_any(bytes, lengths)
 }
 
 // By any tables: an op-code that the map has not is outside the set, whatever length a table has for it.

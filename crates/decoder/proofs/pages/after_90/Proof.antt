@@ -4,7 +4,7 @@ use denote.Ref.{now}
 use borrow.Author.Needs.{needs}
 use Rattle.numbers.specs.Lists.{Bytes}
 use Rattle.stm8.specs.OpcodeMap.{After90}
-use Rattle.decoder.specs.Parts.{onPage}
+use Rattle.opcodes.specs.Entries.{onPage}
 use Rattle.decoder.proofs.Operands.{high-at, low-at}
 use Rattle.decoder.proofs.Sizes.{no-opcode, outside, cut-short, whole}
 use Rattle.decoder.proofs.pages.after_90.Statement.{statement}

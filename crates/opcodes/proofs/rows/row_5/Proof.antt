@@ -1,0 +1,24 @@
+-- `opcodes::rows::row_5` meets its contract.
+use mathlib.Core.Path.{refl, _∙_}
+use mathlib.Core.List.{[], _∷_}
+use Rattle.stm8.specs.OpcodeMap.{Blank, registerRow5, row5}
+use Rattle.stm8.specs.declared.Register.the-variants.{X}
+use Rattle.opcodes.specs.Entries.{inRow}
+use Rattle.opcodes.proofs.Arms.{as-in}
+use Rattle.opcodes.proofs.rows.row_5.Statement.{statement}
+use Rattle.opcodes.proofs.rows.row_5.Tie as tie
+
+pub row-5-spec : {M : Type 1} → statement M
+unfolding inRow
+row-5-spec =
+    tie.close
+    (tie.spec
+    (λ c κs. tt)
+    (λ c. rw (c .match .keys1))
+    (λ c. rw (c .match .keys2))
+    (λ c. rw (c .match .keys3))
+    (λ c. rw (c .match .keys4))
+    (λ c.
+    let s = c .before .before .args in
+    c .register-row-5 .ensures ∙ as-in (registerRow5 X Blank Blank Blank Blank) (row5 (s .a) (s .ab) (s .cd)) (11 ∷ 5 ∷ 2 ∷ 1 ∷ []) refl (s .op)
+    _ (c .before .match .rest)))
