@@ -1,5 +1,5 @@
 // Runs the codec at the borders of the gate set, a line a case: instructions to encode, with the number, the length and the five bytes; loose bytes to
-// decode, with the number and the length. A number is 0 where there is an instruction.
+// decode, by the map's own lengths and by lent tables, with the number and the length. A number is 0 where there is an instruction.
 use libc::STDOUT_FILENO;
 use stm8::AluOp;
 use stm8::BitOp;
@@ -52,6 +52,13 @@ fn decode(label: &[u8], bytes: &[u8]) {
     io::write_all(STDOUT_FILENO, label);
     io::write_all(STDOUT_FILENO, b": ");
     print_decoded(decoder::decode(bytes));
+    io::write_all(STDOUT_FILENO, b"\n");
+}
+
+fn decode_by(label: &[u8], bytes: &[u8], lengths: &[[u8; 256]; 3]) {
+    io::write_all(STDOUT_FILENO, label);
+    io::write_all(STDOUT_FILENO, b": ");
+    print_decoded(decoder::decode_by(bytes, lengths));
     io::write_all(STDOUT_FILENO, b"\n");
 }
 
@@ -124,9 +131,25 @@ fn outside_the_set() {
     decode(b"72 BB", b"\x72\xBB");
 }
 
+// A table can leave an op-code out, and has the last word on a length; an op-code that the map has not it cannot put in.
+fn by_tables() {
+    let mut lengths = stm8::map_lengths();
+    decode_by(b"AD 05 by the map's tables", b"\xAD\x05", &lengths);
+    decode_by(b"AD by the map's tables", b"\xAD", &lengths);
+    let mut plain = lengths[0];
+    plain[0xAD] = 0;
+    plain[0xA6] = 3;
+    plain[0x8E] = 1;
+    lengths[0] = plain;
+    decode_by(b"AD by a table without it", b"\xAD", &lengths);
+    decode_by(b"A6 05 by a table with 3 for it", b"\xA6\x05", &lengths);
+    decode_by(b"8E by a table with it", b"\x8E", &lengths);
+}
+
 fn main() {
     bit_positions();
     forms();
     too_few_bytes();
     outside_the_set();
+    by_tables();
 }
