@@ -8,9 +8,8 @@ use native.Mathlib.Omega.{arith}
 use lib.ListN.{length, getD, take, drop, set, replicate, length-replicate}
 use lib.Seq.{getD-set-same, getD-set-other}
 use borrow.Author.Count.{below-more}
-use borrow.Rule.Slice.PartAt.{part-to-end}
 use Rattle.numbers.specs.Bits.{flag}
-use Rattle.image.specs.Image.{countOf, codeAt, codeOf, sizeOf, lengthAt, startOf, endOf}
+use Rattle.image.specs.Image.{countOf, codeAt, sizeOf, lengthAt, startOf, endOf}
 use Rattle.image.specs.Validation.{validated}
 use Rattle.image.specs.declared.Limits.{Limits}
 use Rattle.image.specs.declared.Layout.{Layout}
@@ -19,6 +18,7 @@ use Rattle.image.proofs.Layouts.{valid-bounds, base-is, count-is, size-is}
 use Rattle.image.proofs.Measuring.{start-zero, start-next, start-inside, end-inside}
 use Rattle.image.proofs.Validity.{valid-rules}
 use Rattle.code.specs.Code.{Start}
+use Rattle.code.proofs.Parts.{code-cut}
 use Rattle.rules.specs.Rules.{countBelow}
 use Rattle.rules.proofs.RefusalNumbers.{routine-refusal-at}
 use Rattle.control_flow.specs.Graph.{column}
@@ -47,9 +47,7 @@ begins-more image begins k at inside e before =
 -- a routine with the code cut out of its image
 pub code-given : {image begins : List ℕ} {r : Routine} {at : ℕ} → at ≡ codeAt image → RoutineOf image r → Begins image begins (r .index) →
     Given image (take (length image - at) (drop at image)) begins r
-unfolding codeOf
-code-given {image} {at = at} own routine earlier =
-    record { routine = routine; own = part-to-end image at ∙ ap (λ k. drop k image) own; earlier = earlier }
+code-given {image} {at = at} own routine earlier = record { routine = routine; own = code-cut image at own; earlier = earlier }
 
 flag-most : (b : Bool) → flag b ≤ 1
 flag-most true = omega arith

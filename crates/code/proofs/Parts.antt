@@ -1,11 +1,13 @@
--- The part of a list from one place to another, of which no more is taken than there is.
+-- The part of a list from one place to another, of which no more is taken than there is; and the code of an image as such a part.
 use Prim.Native.Nat.{ℕ, zero, suc, _+_, _-_, _≤_, min}
-use mathlib.Core.Path.{_≡_, refl, ap}
+use mathlib.Core.Path.{_≡_, refl, ap, _∙_}
 use mathlib.Core.Logic.{by-cases}
 use mathlib.Core.List.{List, [], _∷_}
 use native.Mathlib.Decide.{decLe}
 use native.Mathlib.Omega.{arith}
 use lib.ListN.{length, take, drop, length-drop}
+use borrow.Rule.Slice.PartAt.{part-to-end}
+use Rattle.image.specs.Image.{codeAt, codeOf}
 
 -- past the end of a list all counts are one
 take-same : (n m : ℕ) (s : List ℕ) → min n (length s) ≡ min m (length s) → take n s ≡ take m s
@@ -42,3 +44,8 @@ within s at end =
     (λ gt.
     let none : min end (length s) - min at (min end (length s)) ≡ 0 = omega arith in
     rw none (take-same 0 (end - at) (drop at s) (rw size (past at end (length s) (omega arith)))))
+
+-- the code, cut out of its image
+pub code-cut : (image : List ℕ) (at : ℕ) → at ≡ codeAt image → take (length image - at) (drop at image) ≡ codeOf image
+unfolding codeOf
+code-cut image at own = part-to-end image at ∙ ap (λ k. drop k image) own

@@ -1,15 +1,14 @@
 -- `listing::lines::push_decoded` meets its contract.
-use Prim.Native.Nat.{ℕ, _-_}
+use Prim.Native.Nat.{ℕ}
 use mathlib.Core.Path.{_≡_, ap, sym, _∙_}
 use mathlib.Core.List.{List}
 use native.Mathlib.Omega.{arith}
-use lib.ListN.{length, take, drop}
 use borrow.Author.Needs.{needs}
-use borrow.Rule.Slice.PartAt.{part-to-end}
 use denote.Ref.{now}
 use Rattle.stm8.specs.declared.Decoded.{Decoded}
-use Rattle.image.specs.Image.{codeOf, sizeOf}
+use Rattle.image.specs.Image.{sizeOf}
 use Rattle.code.specs.Code.{decodedAt, instructionIn}
+use Rattle.code.proofs.Parts.{code-cut}
 use Rattle.listing.proofs.Appending.{wrote-none}
 use Rattle.listing.proofs.lines.push_decoded.Statement.{statement}
 use Rattle.listing.proofs.lines.push_decoded.Tie as tie
@@ -19,23 +18,12 @@ stands : (image : List ℕ) (size offset : ℕ) {d d′ : Decoded} → size ≡ 
     instructionIn image offset ≡ d′
 stands image size offset whole e is = ap (λ n. decodedAt image n offset) (sym whole) ∙ sym e ∙ is
 
--- the code was cut out of the image
-cut : (c : tie.After-decode-at) →
-    let start = c .before .before .before .before .before in
-    let image = now (start .args .image) in
-    let at = c .before .before .code-at .result in
-    take (length image - at) (drop at image) ≡ codeOf image
-unfolding codeOf
-cut c =
-    let image = now (c .before .before .before .before .before .args .image) in
-    part-to-end image (c .before .before .code-at .result) ∙ ap (λ k. drop k image) (c .before .before .code-at .ensures .0)
-
 returns : tie.Need-returns
 returns c =
     let d = c .before .before .before .before .before .before .before in
     let start = d .before .before .before .before .before in
     let a = start .args in
-    let found = stands (now (a .image)) (a .size) (a .offset) (start .pre .1) (d .decode-at .ensures .0 _ (cut d))
+    let found = stands (now (a .image)) (a .size) (a .offset) (start .pre .1) (d .decode-at .ensures .0 _ (code-cut _ _ (d .before .before .code-at .ensures .0)))
     (c .before .before .before .before .before .d .given .1) in
     rw found (c .before .before .push-text .ensures)
 
@@ -44,7 +32,7 @@ returns-2 c =
     let d = c .before .before in
     let start = d .before .before .before .before .before in
     let a = start .args in
-    let found = stands (now (a .image)) (a .size) (a .offset) (start .pre .1) (d .decode-at .ensures .0 _ (cut d)) (c .enum-told .given .1) in
+    let found = stands (now (a .image)) (a .size) (a .offset) (start .pre .1) (d .decode-at .ensures .0 _ (code-cut _ _ (d .before .before .code-at .ensures .0))) (c .enum-told .given .1) in
     rw found (wrote-none _ _)
 
 returns-3 : tie.Need-returns-3
@@ -52,7 +40,7 @@ returns-3 c =
     let d = c .before .before in
     let start = d .before .before .before .before .before in
     let a = start .args in
-    let found = stands (now (a .image)) (a .size) (a .offset) (start .pre .1) (d .decode-at .ensures .0 _ (cut d)) (c .enum-told2 .given .1) in
+    let found = stands (now (a .image)) (a .size) (a .offset) (start .pre .1) (d .decode-at .ensures .0 _ (code-cut _ _ (d .before .before .code-at .ensures .0))) (c .enum-told2 .given .1) in
     rw found (wrote-none _ _)
 
 pub push-decoded-spec : {M : Type 1} → statement M
