@@ -9,7 +9,8 @@ use lib.ListN.{length, getD, take, drop, set, replicate, length-replicate}
 use lib.Seq.{getD-set-same, getD-set-other}
 use borrow.Author.Count.{below-more}
 use Rattle.numbers.specs.Bits.{flag}
-use Rattle.image.specs.Image.{countOf, codeAt, sizeOf, lengthAt, startOf, endOf}
+use Rattle.image.specs.Image.{countOf, codeAt, sizeOf, startOf, endOf, mainOf}
+use Rattle.image.specs.Lengths.{Begins}
 use Rattle.image.specs.Validation.{validated}
 use Rattle.image.specs.declared.Limits.{Limits}
 use Rattle.image.specs.declared.Layout.{Layout}
@@ -30,7 +31,7 @@ use Rattle.acceptance.proofs.Graphs.{decoded}
 use Rattle.acceptance.proofs.OneRoutine.{code-refused, checked-refused, checked-passed}
 use Rattle.acceptance.proofs.AllRoutines.{zeros-at, none-yet, one-more}
 use Rattle.acceptance.proofs.NeedBounds.{need-bound, no-needs, needs-bound}
-use Rattle.decode_pass.specs.Pass.{Begins, RoutineOf, Given, NoStarts, cellsOf, RoutineDecoded, refused, filled}
+use Rattle.decode_pass.specs.Pass.{RoutineOf, Given, NoStarts, cellsOf, RoutineDecoded, refused, filled}
 use Rattle.decode_pass.specs.declared.Routine.{Routine}
 use Rattle.decode_pass.proofs.DecodePass.{fault-some, start-below}
 use Rattle.checker.specs.Internal.{Clean, NeedsBelow, Swept, ended, stopped, Small}
@@ -59,12 +60,22 @@ unfolding countBelow
 count-most test zero = omega arith
 count-most test (suc n) = omega (arith, count-most test n, flag-most (test n))
 
+-- a routine of a valid image ends where the next one begins, and the last one with the code
+module _ (image : List ℕ) (limits : Limits) (layout : Layout) (index : ℕ) (valid : validated image limits ≡ Valid layout) where
+  pub next-begins : (begins : List ℕ) → Begins image begins (layout .count) → index + 1 < layout .count → getD begins (index + 1) 0 ≡ endOf image index
+  next-begins begins told more = told (index + 1) more ∙ start-next image index (omega (arith, count-is image limits layout valid))
+
+  pub last-ends : index < layout .count → layout .count ≤ index + 1 → layout .size ≡ endOf image index
+  unfolding mainOf
+  last-ends below last =
+      let main : countOf image - 1 ≡ index = omega (arith, count-is image limits layout valid) in
+      sym (valid-bounds image limits layout valid .main) ∙ ap (endOf image) main
+
 -- the next routine of a valid image
-pub routine-of : {image : List ℕ} {limits : Limits} {layout : Layout} {index start length : ℕ} → validated image limits ≡ Valid layout →
-    index < layout .count → start ≡ startOf image index → length ≡ lengthAt image index →
-    RoutineOf image (record { index = index; start = start; end = start + length; base = layout .base; limits = limits })
-unfolding endOf
-routine-of {image} {limits} {layout} {index} valid below start-is length-is =
+pub routine-of : {image : List ℕ} {limits : Limits} {layout : Layout} {index start end : ℕ} → validated image limits ≡ Valid layout →
+    index < layout .count → start ≡ startOf image index → end ≡ endOf image index →
+    RoutineOf image (record { index = index; start = start; end = end; base = layout .base; limits = limits })
+routine-of {image} {limits} {layout} {index} valid below start-is end-is =
     let b = valid-bounds image limits layout valid in
     let rules = valid-rules image limits layout valid .1 in
     record {
@@ -72,7 +83,7 @@ routine-of {image} {limits} {layout} {index} valid below start-is length-is =
       inside = omega (arith, count-is image limits layout valid);
       base-is = base-is image limits layout valid;
       start-is = start-is;
-      end-is = rw (start-is, length-is);
+      end-is = end-is;
       index = omega (arith, b .count .1);
       some = omega (arith, b .begins index below);
       size = omega (arith, b .ends index below, b .size .1);

@@ -1,19 +1,23 @@
 -- From the sweep's last state to the outcome of the check.
 use Prim.Native.Nat.{ℕ, _≤_}
-use mathlib.Core.Path.{_≡_, refl}
+use mathlib.Core.Path.{_≡_, refl, ap, _∙_}
 use mathlib.Core.List.{List, _++_}
 use native.Mathlib.Omega.{arith}
 use lib.ListN.{length, drop}
-use Rattle.image.specs.Image.{countOf, mainOf, sizeOf}
+use Rattle.image.specs.Image.{countOf, mainOf, sizeOf, layoutOf}
 use Rattle.image.specs.Validation.{validated}
 use Rattle.image.specs.declared.Limits.{Limits}
 use Rattle.image.specs.declared.Layout.{Layout}
 use Rattle.image.specs.declared.Validated.the-variants.{Valid}
 use Rattle.image.proofs.Layouts.{count-is}
+use Rattle.image.proofs.Validity.{rules-valid}
 use Rattle.rules.specs.Rules.{reportedNeed}
 use Rattle.rules.specs.Outcome.{Outcome}
 use Rattle.rules.specs.declared.Verdict.{Verdict}
+use Rattle.rules.specs.declared.Verdict.the-variants.{Accepted}
+use Rattle.acceptance.specs.Check.{checked}
 use Rattle.acceptance.specs.Passed.{needIn}
+use Rattle.acceptance.proofs.Accepting.{accepted-exactly}
 use Rattle.acceptance.proofs.Outcomes.{refused-outcome, no-room-outcome, accepted-outcome}
 use Rattle.checker.specs.Internal.{Swept, ended, stopped, lastNeed, VerdictOf, refusing, narrow, accepting, codeMarks, CodeOutcome}
 use Rattle.checker.specs.declared.sweep.Sweep.{Sweep}
@@ -44,3 +48,10 @@ module _ {image : List ℕ} {limits : Limits} {layout : Layout} (valid : validat
 pub code-whole : {image : List ℕ} {limits : Limits} {size : ℕ} {v : Verdict} {before marks : List ℕ} → size ≡ sizeOf image → size ≤ length before →
     CodeOutcome image limits v marks → Outcome image limits before v (marks ++ drop size before)
 code-whole {image} {before = before} e enough o = rw e (o .whole before (omega arith))
+
+-- what is accepted is valid
+pub accepted-valid : (image : List ℕ) (limits : Limits) (marks : List ℕ) {v : Verdict} {after : List ℕ} {n c : ℕ} →
+    checked image limits marks ≡ (v, after) → v ≡ Accepted n c → validated image limits ≡ Valid (layoutOf image)
+accepted-valid image limits marks {n = n} {c = c} check e =
+    let h = accepted-exactly image limits marks n c .0 (ap (λ (r : Verdict × List ℕ). r .0) check ∙ e) in
+    rules-valid image limits (h .rules .areas) (h .rules .layout)

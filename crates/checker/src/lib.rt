@@ -4,14 +4,16 @@ mod sweep;
 
 pub use rules::Verdict;
 ghost use mathlib.Core.Path.{_≡_};
-ghost use Prim.Native.Nat.{_≤_};
+ghost use Prim.Native.Nat.{ℕ, _≤_};
 ghost use lib.ListN.{length};
-ghost use Rattle.image.specs.Image.{countOf, sizeOf};
+ghost use Rattle.image.specs.Image.{countOf};
+ghost use Rattle.image.specs.Lengths.{Begins};
 ghost use Rattle.image.specs.Validation.{validated};
+ghost use Rattle.image.specs.declared.Layout.{Layout};
 ghost use Rattle.image.specs.declared.Validated.the-variants.{Valid};
 ghost use Rattle.rules.specs.Outcome.{Outcome, VerdictNumbered};
+ghost use Rattle.rules.specs.declared.Verdict.the-variants.{Accepted};
 ghost use Rattle.acceptance.specs.Check.{checked};
-ghost use Rattle.decode_pass.specs.Pass.{Begins};
 ghost use Rattle.checker.specs.Internal.{Small, VerdictOf, codeMarks, CodeOutcome};
 use crate::marks::clear;
 use crate::sweep::Sweep;
@@ -19,8 +21,7 @@ use crate::sweep::sweep_routines;
 use image::Layout;
 use image::Limits;
 use image::Validated;
-use image::routine_length;
-use image::validate;
+use image::measure;
 
 // What the sweep's last state says; 16 comes last.
 fn verdict_of(limits: Limits, layout: Layout, s: Sweep) -> Verdict
@@ -49,45 +50,78 @@ fn clear_refused(v: Verdict, marks: &mut [u16])
     }
 }
 
-// Where each routine begins.
-fn routine_begins(image: &[u8], count: usize) -> [u16; 32]
-    requires { ⌜ (count ≡ countOf (now image)) × (count ≤ 32) × (sizeOf (now image) ≤ 4096) ⌝ }
-    ensures { λ r. ⌜ Begins (now (image .entry)) r count ⌝ }
-{
-    let mut begins = [0u16; 32];
-    let mut k = 0;
-    let mut at = 0;
-    while k < count {
-        begins[k] = at as u16;
-        at += routine_length(image, k) as usize;
-        k += 1;
-    }
-    begins
-}
-
 // The sweep of a valid image's code, over as many marks as it has bytes.
-fn check_code(image: &[u8], limits: Limits, layout: Layout, marks: &mut [u16]) -> Verdict
-    requires { ⌜ (validated (now image) limits ≡ Valid layout) × (length (now marks) ≡ layout .size) ⌝ }
+fn check_code(
+    image: &[u8],
+    limits: Limits,
+    layout: Layout,
+    begins: &[u16; 32],
+    marks: &mut [u16],
+) -> Verdict
+    requires { ⌜ (validated (now image) limits ≡ Valid layout) × Begins (now image) (now begins) (layout .count) × (length (now marks) ≡ layout .size) ⌝ }
     ensures { λ r. ⌜ CodeOutcome (now (image .entry)) limits r (now (marks .exit)) ⌝ }
 {
     clear(marks);
-    let begins = routine_begins(image, layout.count);
-    let s = sweep_routines(image, limits, layout, &begins, marks);
+    let s = sweep_routines(image, limits, layout, begins, marks);
     let v = verdict_of(limits, layout, s);
     clear_refused(v, marks);
     v
 }
 
 // A valid image: 5 where there are too few marks, else its code. Cells past the code never change.
-fn check_valid(image: &[u8], limits: Limits, layout: Layout, marks: &mut [u16]) -> Verdict
-    requires { ⌜ validated (now image) limits ≡ Valid layout ⌝ }
+fn check_valid(
+    image: &[u8],
+    limits: Limits,
+    layout: Layout,
+    begins: &[u16; 32],
+    marks: &mut [u16],
+) -> Verdict
+    requires { ⌜ (validated (now image) limits ≡ Valid layout) × Begins (now image) (now begins) (layout .count) ⌝ }
     ensures { λ r. ⌜ Outcome (now (image .entry)) limits (now (marks .entry)) r (now (marks .exit)) ⌝ }
 {
     let size = layout.size;
     if marks.len() < size {
         return Verdict::Refused(5, 0);
     }
-    check_code(image, limits, layout, &mut marks[..size])
+    check_code(image, limits, layout, begins, &mut marks[..size])
+}
+
+// A verdict, and where the routines of an accepted image begin.
+pub struct CheckedImage {
+    pub verdict: Verdict,
+    pub begins: [u16; 32],
+}
+
+// The verdict of a measured image.
+fn check_measured(
+    image: &[u8],
+    limits: Limits,
+    answer: Validated,
+    begins: &[u16; 32],
+    marks: &mut [u16],
+) -> Verdict
+    requires { ⌜ answer ≡ validated (now image) limits ⌝ }
+    requires { ⌜ ((layout : Layout) → answer ≡ Valid layout → Begins (now image) (now begins) (layout .count)) ⌝ }
+    ensures { λ r. ⌜ checked (now (image .entry)) limits (now (marks .entry)) ≡ (r, now (marks .exit)) ⌝ }
+    ensures { λ r. ⌜ VerdictNumbered 16 r ⌝ }
+{
+    match answer {
+        Validated::Refused(number) => Verdict::Refused(number, 0),
+        Validated::Valid(layout) => check_valid(image, limits, layout, begins, marks),
+    }
+}
+
+// Checks an image under limits, and tells where the routines begin of one that is accepted.
+pub fn check_begins(image: &[u8], limits: Limits, marks: &mut [u16]) -> CheckedImage
+    ensures { λ r. ⌜ checked (now (image .entry)) limits (now (marks .entry)) ≡ (r .verdict, now (marks .exit)) ⌝ }
+    ensures { λ r. ⌜ VerdictNumbered 16 (r .verdict) ⌝ }
+    ensures { λ r. ⌜ ((need count : ℕ) → r .verdict ≡ Accepted need count → Begins (now (image .entry)) (r .begins) (countOf (now (image .entry)))) ⌝ }
+{
+    let measured = measure(image, limits);
+    let answer = measured.validated;
+    let begins = measured.begins;
+    let verdict = check_measured(image, limits, answer, &begins, marks);
+    CheckedImage { verdict, begins }
 }
 
 // Checks an image under limits.
@@ -95,9 +129,6 @@ pub fn check(image: &[u8], limits: Limits, marks: &mut [u16]) -> Verdict
     ensures { λ r. ⌜ checked (now (image .entry)) limits (now (marks .entry)) ≡ (r, now (marks .exit)) ⌝ }
     ensures { λ r. ⌜ VerdictNumbered 16 r ⌝ }
 {
-    let v = validate(image, limits);
-    match v {
-        Validated::Refused(number) => Verdict::Refused(number, 0),
-        Validated::Valid(layout) => check_valid(image, limits, layout, marks),
-    }
+    let checked = check_begins(image, limits, marks);
+    checked.verdict
 }

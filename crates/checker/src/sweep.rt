@@ -1,12 +1,15 @@
 // The sweep over the routines: 6 to 15.
 ghost use mathlib.Core.Path.{_≡_};
-ghost use Prim.Native.Nat.{_+_, _≤_, _<_};
+ghost use mathlib.Core.List.{List};
+ghost use Prim.Native.Nat.{ℕ, _+_, _≤_, _<_};
 ghost use lib.ListN.{set, replicate};
-ghost use Rattle.image.specs.Image.{sizeOf, startOf};
+ghost use Rattle.image.specs.Image.{sizeOf, startOf, endOf};
+ghost use Rattle.image.specs.Lengths.{Begins};
 ghost use Rattle.image.specs.Validation.{validated};
+ghost use Rattle.image.specs.declared.Limits.{Limits};
 ghost use Rattle.image.specs.declared.Validated.the-variants.{Valid};
 ghost use Rattle.acceptance.specs.Passed.{RoutineChecked, RoutinesPassed};
-ghost use Rattle.decode_pass.specs.Pass.{Begins, RoutineOf};
+ghost use Rattle.decode_pass.specs.Pass.{RoutineOf};
 ghost use Rattle.checker.specs.Internal.{Clean, Swept, Small};
 use decode_pass::Routine;
 use decode_pass::decode_routine;
@@ -14,8 +17,8 @@ use flow_check::Checked;
 use flow_check::check_flow;
 use image::Layout;
 use image::Limits;
+use image::begin_at;
 use image::code_at;
-use image::routine_length;
 
 // The state between routines: the first refusal, the offset, the next routine's place in the table, the number of starts, and the needs
 // of the routines that are done.
@@ -27,13 +30,33 @@ pub struct Sweep {
     pub needs: [u16; 32],
 }
 
+// Where a routine ends: where the next one begins, or with the code.
+fn end_of(layout: Layout, begins: &[u16; 32], index: usize) -> usize
+    requires { ⌜ (index < layout .count) × (layout .count ≤ 32) ⌝ }
+    ensures { λ r. ⌜ ((image : List ℕ) (limits : Limits) → validated image limits ≡ Valid layout →
+        Begins image (now (begins .entry)) (layout .count) → r ≡ endOf image index) ⌝ }
+{
+    if index + 1 < layout.count {
+        begin_at(begins, index + 1)
+    } else {
+        layout.size
+    }
+}
+
 // The next routine.
-fn routine_at(image: &[u8], limits: Limits, layout: Layout, index: usize, start: usize) -> Routine
-    requires { ⌜ (validated (now image) limits ≡ Valid layout) × (index < layout .count) × (start ≡ startOf (now image) index) ⌝ }
-    ensures { λ r. ⌜ RoutineOf (now (image .entry)) r ⌝ }
+fn routine_at(
+    limits: Limits,
+    layout: Layout,
+    begins: &[u16; 32],
+    index: usize,
+    start: usize,
+) -> Routine
+    requires { ⌜ (index < layout .count) × (layout .count ≤ 32) ⌝ }
+    ensures { λ r. ⌜ ((image : List ℕ) → validated image limits ≡ Valid layout → Begins image (now (begins .entry)) (layout .count) →
+        start ≡ startOf image index → RoutineOf image r) ⌝ }
     ensures { λ r. ⌜ (r .index ≡ index) × (r .start ≡ start) × (r .limits ≡ limits) ⌝ }
 {
-    let end = start + routine_length(image, index) as usize;
+    let end = end_of(layout, begins, index);
     Routine {
         index,
         start,
@@ -148,7 +171,7 @@ pub(crate) fn sweep_routines(
     let mut stack = [0u16; 4096];
     let mut s = begun();
     while s.index < layout.count {
-        let r = routine_at(image, limits, layout, s.index, s.at);
+        let r = routine_at(limits, layout, begins, s.index, s.at);
         let x = check_routine(
             image,
             begins,

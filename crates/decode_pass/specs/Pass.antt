@@ -2,18 +2,15 @@
 use Prim.Native.Nat.{ℕ, _≤_, _<_}
 use mathlib.Core.Path.{_≡_}
 use mathlib.Core.List.{List}
-use lib.ListN.{length, getD}
+use lib.ListN.{length}
 use Rattle.image.specs.Image.{baseOf, countOf, codeOf, startOf, endOf}
+use Rattle.image.specs.Lengths.{Begins}
 use Rattle.image.specs.Rules.{ImageRules}
 use Rattle.rules.specs.Refusal.{CodeFault, Lowest}
 use Rattle.control_flow.specs.Graph.{column}
 use Rattle.control_flow.specs.Routine as cells
 use Rattle.acceptance.specs.Cells.{Filled}
 use Rattle.decode_pass.specs.declared.Routine.{Routine}
-
--- where the routines before r begin
-abbrev pub Begins : List ℕ → List ℕ → ℕ → Type 0
-Begins image begins r = (k : ℕ) → k < r → getD begins k 0 ≡ startOf image k
 
 -- a routine of a valid image
 pub record RoutineOf (image : List ℕ) (r : Routine) : Type 0 where

@@ -2,18 +2,19 @@
 ghost use mathlib.Core.Path.{_≡_};
 ghost use Prim.Native.Nat.{_+_, _≤_, _<_};
 ghost use lib.ListN.{length};
-ghost use Rattle.image.specs.Image.{baseOf, startOf, mainOf};
+ghost use Rattle.image.specs.Image.{baseOf, countOf, startOf, mainOf};
+ghost use Rattle.image.specs.Lengths.{Begins};
 ghost use Rattle.image.specs.Rules.{ImageRules};
 ghost use Rattle.rules.specs.Outcome.{VerdictNumbered};
 ghost use Rattle.gate.specs.Start.{started, zeros, begun, cleared};
 pub use checker::Verdict;
 pub use checker::check;
+use checker::check_begins;
 pub use image::Area;
 pub use image::Limits;
 use image::base_of;
-use image::code_at;
+use image::begin_at;
 use image::count_of;
-use image::routine_length;
 pub use machine::Ran;
 pub use machine::Registers;
 pub use machine::RunAnswer;
@@ -45,21 +46,19 @@ fn refused(verdict: Verdict) -> Started
     Started { verdict, registers }
 }
 
-// The address of main's first byte: main ends with the code.
-fn main_address(image: &[u8]) -> u32
-    requires { ⌜ ImageRules (now image) ⌝ }
+// The address of main's first byte.
+fn main_address(image: &[u8], begins: &[u16; 32]) -> u32
+    requires { ⌜ ImageRules (now image) × Begins (now image) (now begins) (countOf (now image)) ⌝ }
     ensures { λ r. ⌜ r ≡ baseOf (now (image .entry)) + startOf (now (image .entry)) (mainOf (now (image .entry))) ⌝ }
 {
-    let base = base_of(image) as usize;
-    let code = code_at(image);
-    let count = count_of(image) as usize;
-    let main = routine_length(image, count - 1) as usize;
-    (base + image.len() - code - main) as u32
+    let main = count_of(image) as usize - 1;
+    (base_of(image) as usize + begin_at(begins, main)) as u32
 }
 
 // 00 to the top two stack bytes, SP two below stack high and PC at main.
 fn begin(
     image: &[u8],
+    begins: &[u16; 32],
     limits: Limits,
     memory: &mut [u8],
     a: u8,
@@ -67,7 +66,7 @@ fn begin(
     y: u16,
     cc: u8,
 ) -> Registers
-    requires { ⌜ ImageRules (now image) ⌝ }
+    requires { ⌜ ImageRules (now image) × Begins (now image) (now begins) (countOf (now image)) ⌝ }
     requires { ⌜ (2 ≤ limits .stack .high) × (limits .stack .high < length (now memory)) ⌝ }
     ensures { λ r. ⌜ r ≡ begun (now (image .entry)) limits a x y cc ⌝ }
     ensures { λ r. ⌜ now (memory .exit) ≡ cleared limits (now (memory .entry)) ⌝ }
@@ -82,7 +81,7 @@ fn begin(
         y,
         cc,
         sp: stack.high - 2,
-        pc: main_address(image),
+        pc: main_address(image, begins),
     }
 }
 
@@ -104,11 +103,13 @@ pub fn start(
     if memory.len() != 32768 {
         return refused(Verdict::Refused(17, 0));
     }
-    let verdict = check(image, limits, marks);
+    let checked = check_begins(image, limits, marks);
+    let verdict = checked.verdict;
+    let begins = checked.begins;
     match verdict {
         Verdict::Refused(_, _) => refused(verdict),
         Verdict::Accepted(_, _) => {
-            let registers = begin(image, limits, memory, a, x, y, cc);
+            let registers = begin(image, &begins, limits, memory, a, x, y, cc);
             Started { verdict, registers }
         }
     }

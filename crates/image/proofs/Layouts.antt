@@ -2,15 +2,17 @@
 use Prim.Native.Nat.{ℕ, _+_, _-_, _<_}
 use mathlib.Core.Path.{_≡_, refl, subst, sym, ap, _∙_}
 use mathlib.Core.List.{List}
+use native.Mathlib.Nat.{mod-eq-of-lt}
 use native.Mathlib.Omega.{arith}
 use Rattle.image.specs.Image.{baseOf, countOf, codeAt, sizeOf, layoutOf, startOf, endOf, mainOf}
+use Rattle.image.specs.Lengths.{BeginsTo16, Begins}
 use Rattle.image.specs.Validation.{validated}
 use Rattle.image.specs.Rules.{LimitsRules, ImageRules}
 use Rattle.image.specs.ValidLayout.{ValidLayout}
 use Rattle.image.specs.declared.Limits.{Limits}
 use Rattle.image.specs.declared.Layout.{Layout}
 use Rattle.image.specs.declared.Validated.the-variants.{Valid}
-use Rattle.image.proofs.Measuring.{start-next, start-count, end-inside, code-length}
+use Rattle.image.proofs.Measuring.{start-next, start-count, start-inside, end-inside, code-length}
 use Rattle.image.proofs.Validity.{valid-layout, valid-rules}
 
 module _ (image : List ℕ) where
@@ -67,3 +69,9 @@ module _ (image : List ℕ) (limits : Limits) (layout : Layout) (valid : validat
   pub size-is : layout .size ≡ sizeOf image
   unfolding layoutOf
   size-is = ap (λ (l : Layout). l .size) (valid-layout image limits layout valid)
+
+  -- no routine of it begins past 16 bits
+  pub begins-whole : (begins : List ℕ) → BeginsTo16 image begins (countOf image) → Begins image begins (layout .count)
+  begins-whole begins told k below =
+      told k (omega (arith, count-is)) (omega (arith, valid-bounds .count .1)) ∙
+      mod-eq-of-lt (omega (arith, start-inside image k, size-is, valid-bounds .size .1))

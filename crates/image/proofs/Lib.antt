@@ -1,3 +1,4 @@
+pub mod Feeding
 pub mod FromParts
 pub mod Granting
 pub mod Layouts

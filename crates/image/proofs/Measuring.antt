@@ -61,24 +61,6 @@ module _ (image : List ℕ) where
   pub end-before : (j k : ℕ) → j < k → j < countOf image → endOf image j ≤ startOf image k
   end-before j k h below = rw (start-next j below) at (start-rises (j + 1) k (omega arith))
 
-  -- the check of the lengths before k
-  pub lengthsBefore : ℕ → ℕ
-  lengthsBefore k = firstIn (take k (map lengthCheck (lengthsOf image)))
-
-  pub lengths-none : lengthsBefore 0 ≡ 0
-  unfolding lengthsBefore firstIn
-  lengths-none = refl
-
-  pub lengths-more : (k : ℕ) → k < countOf image → lengthsBefore (k + 1) ≡ first (lengthsBefore k) (lengthCheck (lengthAt image k))
-  unfolding lengthsBefore lengthAt
-  lengths-more k h =
-      firstIn-more (map lengthCheck (lengthsOf image)) k (lengthCheck 0) (omega (arith, lengths-count, length-map (lengthsOf image) lengthCheck)) ∙
-      ap (first (lengthsBefore k)) (List·getD-map lengthCheck (lengthsOf image) k 0)
-
-  pub lengths-all : lengthsBefore (countOf image) ≡ lengthsCheck (lengthsOf image)
-  unfolding lengthsBefore lengthsCheck
-  lengths-all = ap firstIn (take-all (countOf image) (map lengthCheck (lengthsOf image)) (omega (arith, lengths-count, length-map (lengthsOf image) lengthCheck)))
-
   pub code-length : length (codeOf image) ≡ length image - codeAt image
   unfolding codeOf
   code-length = length-drop (codeAt image) image

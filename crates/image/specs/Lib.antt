@@ -1,4 +1,5 @@
 pub mod Image
+pub mod Lengths
 pub mod Rules
 pub mod Access
 pub mod Validation

@@ -1,10 +1,14 @@
 // The header of an image: its mark, its length list and the rules of its layout.
 ghost use mathlib.Core.Path.{_≡_};
-ghost use Prim.Native.Nat.{_≤_, _+_, _*_};
-ghost use lib.ListN.{length};
-ghost use Rattle.image.specs.Image.{baseOf, countOf, codeAt, lengthAt, lengthsOf, codeOf, sizeOf, layoutOf};
-ghost use Rattle.image.specs.Validation.{markCheck, lengthsCheck, layoutCheck};
+ghost use mathlib.Core.Bool.{cond};
+ghost use Prim.Native.Nat.{_≤_, _+_, _*_, _%_};
+ghost use lib.Dec.{ltb};
+ghost use lib.ListN.{length, set};
+ghost use Rattle.image.specs.Image.{baseOf, countOf, codeAt, lengthsOf, codeOf, layoutOf};
+ghost use Rattle.image.specs.Lengths.{afterAll, BeginsTo16};
+ghost use Rattle.image.specs.Validation.{markCheck, layoutCheck};
 use crate::Layout;
+use crate::LengthState;
 use numbers::checks::differ;
 use numbers::checks::first;
 use numbers::checks::under;
@@ -12,10 +16,10 @@ use numbers::checks::unless;
 use numbers::words::byte_at;
 use numbers::words::word_at;
 
-// The sum of the lengths, and 4 where one of them is 0.
-pub struct CheckedLengths {
-    pub total: usize,
-    pub refusal: u8,
+// What one look at the length list tells: the state after it, and where the routines begin, to 16 bits, which no valid image passes.
+pub struct ReadBegins {
+    pub state: LengthState,
+    pub begins: [u16; 32],
 }
 
 // The layout that the header says, and 4 where it breaks a rule.
@@ -56,49 +60,59 @@ pub fn code_at(image: &[u8]) -> usize
     8 + 2 * count_of(image) as usize
 }
 
-// The length of routine k, 0 past the list. Nothing else reads the length list.
-pub fn routine_length(image: &[u8], k: usize) -> u16
-    ensures { λ r. ⌜ r ≡ lengthAt (now (image .entry)) k ⌝ }
+// A routine's begin, to 16 bits; none past the 32 that an image may have.
+fn gather(begins: &mut [u16; 32], k: usize, begin: u32)
+    ensures { λ _. ⌜ now (begins .exit) ≡ cond (ltb k 32) (set (now (begins .entry)) k (begin % 0x10000)) (now (begins .entry)) ⌝ }
 {
-    let count = count_of(image) as usize;
-    if k < count {
-        word_at(image, 8 + 2 * k)
-    } else {
-        0
+    if k < 32 {
+        begins[k] = (begin % 0x10000) as u16;
     }
 }
 
-// The sum of the lengths and their check, in one loop. The sum of 255 lengths passes 16 bits, and not 24.
-pub fn lengths_check(image: &[u8]) -> CheckedLengths
-    ensures { λ r. ⌜ r .total ≡ sizeOf (now (image .entry)) ⌝ }
-    ensures { λ r. ⌜ r .refusal ≡ lengthsCheck (lengthsOf (now (image .entry))) ⌝ }
-    ensures { λ r. ⌜ r .total ≤ 65535 * 255 ⌝ }
+// The lengths, each read once and in their order.
+pub fn read_lengths(image: &[u8]) -> LengthState
+    ensures { λ r. ⌜ r ≡ afterAll (lengthsOf (now (image .entry))) ⌝ }
 {
     let count = count_of(image) as usize;
-    let mut total = 0;
-    let mut refusal = 0;
+    let mut state = LengthState::new();
     let mut k = 0;
     while k < count {
-        let length = routine_length(image, k) as usize;
-        total += length;
-        refusal = first(refusal, under(length, 1, 4));
+        state = state.feed(word_at(image, 8 + 2 * k));
         k += 1;
     }
-    CheckedLengths { total, refusal }
+    state
 }
 
-// The layout and its check, from one look at the length list.
-pub fn layout_check(image: &[u8]) -> CheckedLayout
+// The same, and where the routines begin, gathered on the way.
+pub fn read_begins(image: &[u8]) -> ReadBegins
+    ensures { λ r. ⌜ r .state ≡ afterAll (lengthsOf (now (image .entry))) ⌝ }
+    ensures { λ r. ⌜ BeginsTo16 (now (image .entry)) (r .begins) (countOf (now (image .entry))) ⌝ }
+{
+    let count = count_of(image) as usize;
+    let mut begins = [0u16; 32];
+    let mut state = LengthState::new();
+    let mut k = 0;
+    while k < count {
+        let at = 8 + 2 * k;
+        gather(&mut begins, k, state.sum);
+        state = state.feed(word_at(image, at));
+        k += 1;
+    }
+    ReadBegins { state, begins }
+}
+
+// The layout and its check, by the state after the length list.
+pub fn layout_check(image: &[u8], lengths: LengthState) -> CheckedLayout
+    requires { ⌜ lengths ≡ afterAll (lengthsOf (now image)) ⌝ }
     ensures { λ r. ⌜ r .layout ≡ layoutOf (now (image .entry)) ⌝ }
     ensures { λ r. ⌜ r .refusal ≡ layoutCheck (baseOf (now (image .entry))) (lengthsOf (now (image .entry))) (length (codeOf (now (image .entry)))) ⌝ }
 {
-    let lengths = lengths_check(image);
-    let size = lengths.total;
+    let size = lengths.sum as usize;
     let base = base_of(image);
     let count = count_of(image) as usize;
     let code = code_at(image);
     let refusal = first(under(count, 1, 4), under(32, count, 4));
-    let refusal = first(refusal, lengths.refusal);
+    let refusal = first(refusal, unless(!lengths.empty, 4));
     let refusal = first(refusal, under(4096, size, 4));
     let refusal = first(refusal, under(base as usize, 0x8000, 4));
     let refusal = first(refusal, under(0x10000, base as usize + size, 4));

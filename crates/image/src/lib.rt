@@ -2,6 +2,7 @@
 mod access;
 mod areas;
 mod header;
+mod lengths;
 
 pub use access::granted;
 pub use areas::apart;
@@ -9,9 +10,14 @@ pub use areas::limits_of;
 pub use header::base_of;
 pub use header::code_at;
 pub use header::count_of;
-pub use header::routine_length;
+pub use lengths::LengthState;
+pub use lengths::begin_at;
 ghost use mathlib.Core.Path.{_≡_};
+ghost use Rattle.image.specs.Image.{lengthsOf};
+ghost use Rattle.image.specs.Lengths.{afterAll, Begins};
 ghost use Rattle.image.specs.Validation.{answer as answerOf, validated, validationNumber};
+ghost use Rattle.image.specs.declared.Layout.{Layout};
+ghost use Rattle.image.specs.declared.Validated.the-variants.{Valid};
 use numbers::checks::differ;
 use numbers::checks::first;
 use numbers::words::word_at;
@@ -41,6 +47,12 @@ pub enum Validated {
     Valid(Layout),
 }
 
+// An answer, and where the routines of a valid image begin.
+pub struct Measured {
+    pub validated: Validated,
+    pub begins: [u16; 32],
+}
+
 // The layout where no rule is broken, else the refusal.
 fn answer(refusal: u8, layout: Layout) -> Validated
     ensures { λ r. ⌜ r ≡ answerOf refusal layout ⌝ }
@@ -52,16 +64,36 @@ fn answer(refusal: u8, layout: Layout) -> Validated
     }
 }
 
-// The refusal of the first rule that is broken, in document 01's order, or the layout.
-pub fn validate(image: &[u8], limits: Limits) -> Validated
+// The refusal of the first rule that is broken, in document 01's order, or the layout, by the state after the length list.
+fn judge(image: &[u8], limits: Limits, lengths: LengthState) -> Validated
+    requires { ⌜ lengths ≡ afterAll (lengthsOf (now image)) ⌝ }
     ensures { λ r. ⌜ r ≡ validated (now (image .entry)) limits ⌝ }
 {
     let limits_refusal = areas::limits_check(limits);
     let mark_refusal = header::mark_check(image);
     let version_refusal = differ(word_at(image, 3) as usize, 1, 3);
-    let checked = header::layout_check(image);
+    let checked = header::layout_check(image, lengths);
     let refusal = first(first(limits_refusal, mark_refusal), version_refusal);
     answer(first(refusal, checked.refusal), checked.layout)
+}
+
+// The refusal or the layout of an image under limits.
+pub fn validate(image: &[u8], limits: Limits) -> Validated
+    ensures { λ r. ⌜ r ≡ validated (now (image .entry)) limits ⌝ }
+{
+    judge(image, limits, header::read_lengths(image))
+}
+
+// The same, and where the routines begin.
+pub fn measure(image: &[u8], limits: Limits) -> Measured
+    ensures { λ r. ⌜ r .validated ≡ validated (now (image .entry)) limits ⌝ }
+    ensures { λ r. ⌜ ((layout : Layout) → r .validated ≡ Valid layout → Begins (now (image .entry)) (r .begins) (layout .count)) ⌝ }
+{
+    let read = header::read_begins(image);
+    let lengths = read.state;
+    let begins = read.begins;
+    let validated = judge(image, limits, lengths);
+    Measured { validated, begins }
 }
 
 // Document 01's number of an answer, 0 where nothing is refused.

@@ -8,34 +8,27 @@ use borrow.Author.Needs.{needs}
 use Rattle.checker.proofs.check_code.Statement.{statement}
 use Rattle.checker.proofs.check_code.Tie as tie
 
-routine-begins-requires : tie.Need-routine-begins-requires
-routine-begins-requires c κs =
-    let valid = c .before .before .before .before .before .before .pre .0 in
-    let bounds = valid-bounds _ _ _ valid in
-    (count-is _ _ _ valid, bounds .count .1, omega (arith, bounds .size .1, size-is _ _ _ valid))
-
 sweep-routines-requires : tie.Need-sweep-routines-requires
 sweep-routines-requires c κs =
-    let r = c .before .before in
-    let z = r .before .before .before in
+    let z = c .before .before .before in
     let p = z .before .before .before .before .pre in (
       p .0,
-      r .routine-begins .ensures,
-      z .clear .ensures ∙ ap (λ n. replicate n 0) (p .1 ∙ size-is _ _ _ (p .0)),
+      p .1,
+      z .clear .ensures ∙ ap (λ n. replicate n 0) (p .2 ∙ size-is _ _ _ (p .0)),
     )
 
 verdict-of-requires : tie.Need-verdict-of-requires
 verdict-of-requires c κs =
-    let bounds = valid-bounds _ _ _ (c .before .before .before .before .before .before .before .before .before .before .before .before .pre .0) in
+    let bounds = valid-bounds _ _ _ (c .before .before .before .before .before .before .before .before .before .before .pre .0) in
     (bounds .count .0, bounds .count .1, c .before .before .sweep-routines .ensures .1)
 
 returns : tie.Need-returns
 returns c =
     let s = c .before .before .before .before .before .before .before in
-    let z = s .before .before .before .before .before .before in
+    let z = s .before .before .before .before in
     let p = z .before .before .before .before .pre in
     let kept = s .sweep-routines .kept .1 .1 .1 .1 .0 in
-    let size = kept ∙ ap length (z .clear .ensures) ∙ length-replicate _ 0 ∙ p .1 ∙ size-is _ _ _ (p .0) in
+    let size = kept ∙ ap length (z .clear .ensures) ∙ length-replicate _ 0 ∙ p .2 ∙ size-is _ _ _ (p .0) in
     code-outcome (p .0) _ size (s .sweep-routines .ensures .0) (c .before .before .before .before .verdict-of .ensures) (c .before .before .clear-refused .ensures)
 
 pub check-code-spec : {M : Type 1} → statement M
@@ -43,7 +36,6 @@ check-code-spec =
     tie.close
     (tie.spec
     (λ c κs. search needs)
-    routine-begins-requires
     sweep-routines-requires
     verdict-of-requires
     (λ c κs. search needs)

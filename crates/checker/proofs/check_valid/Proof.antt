@@ -12,16 +12,16 @@ use Rattle.checker.proofs.check_valid.Tie as tie
 returns : tie.Need-returns
 returns c =
     let s = c .before .before .before in
-    few (s .pre) (omega (arith, size-is _ _ _ (s .pre), c .if1 .taken))
+    few (s .pre .0) (omega (arith, size-is _ _ _ (s .pre .0), c .if1 .taken))
 
 check-code-requires : tie.Need-check-code-requires
-check-code-requires c κs = (c .before .before .before .before .pre, length-take-le _ _ (c .before .if1 .left))
+check-code-requires c κs = (c .before .before .before .before .pre .0, c .before .before .before .before .pre .1, length-take-le _ _ (c .before .if1 .left))
 
 returns-2 : tie.Need-returns-2
 returns-2 c =
     let t = c .before .before .before .before in
     let s = t .before .before .before in
-    code-whole (size-is _ _ _ (s .pre)) (t .if1 .left) (c .before .before .check-code .ensures)
+    code-whole (size-is _ _ _ (s .pre .0)) (t .if1 .left) (c .before .before .check-code .ensures)
 
 pub check-valid-spec : {M : Type 1} → statement M
 check-valid-spec =

@@ -1,19 +1,25 @@
 -- `gate::main_address` meets its contract.
+use Prim.Native.Nat.{_≤_}
+use mathlib.Core.Path.{_≡_, _∙_}
 use borrow.Author.Needs.{needs}
 use denote.Ref.{now}
 use native.Mathlib.Omega.{arith}
-use Rattle.gate.proofs.MainPlace.{MainPlace, some-routine, main-place}
+use Rattle.image.specs.Image.{startOf, mainOf}
+use Rattle.gate.proofs.MainPlace.{main-inside, main-begins}
 use Rattle.gate.proofs.main_address.Statement.{statement}
 use Rattle.gate.proofs.main_address.Tie as tie
 
-place : (c : tie.After-routine-length) →
-    let c3 = c .before .before .before in
-    MainPlace (now (c3 .before .before .args .image)) (c3 .base-of .result) (c .before .before .code-at .result) (c .routine-length .result)
-place c =
-    let c3 = c .before .before .before in
-    let start = c3 .before .before in
-    main-place (now (start .args .image)) (start .pre) _ _ _ _ (c3 .base-of .ensures) (c .before .before .code-at .ensures .0) (c .before .count-of .ensures)
-    (c .routine-length .ensures)
+begins : (c : tie.After-begin-at) →
+    let image = now (c .before .before .before .before .args .image) in
+    c .begin-at .result ≡ startOf image (mainOf image)
+begins c =
+    let start = c .before .before .before .before in
+    c .begin-at .ensures ∙ main-begins (now (start .args .image)) (start .pre .0) (now (start .args .begins)) (start .pre .1) _ (c .before .before .count-of .ensures)
+
+inside : (c : tie.After-begin-at) →
+    let start = c .before .before .before .before in
+    startOf (now (start .args .image)) (mainOf (now (start .args .image))) ≤ 4096
+inside c = let start = c .before .before .before .before in main-inside (now (start .args .image)) (start .pre .0)
 
 pub main-address-spec : {M : Type 1} → statement M
 main-address-spec =
@@ -21,14 +27,10 @@ main-address-spec =
     (tie.spec
     (λ c κs. search needs)
     (λ c. search needs)
-    (λ c κs. search needs)
-    (λ c κs. search needs)
     (λ c. search needs)
-    (λ c. some-routine (now (c .before .before .before .before .args .image)) (c .before .before .before .before .pre) _ (c .count-of .ensures))
     (λ c κs. search needs)
     (λ c. search needs)
-    (λ c. search needs)
-    (λ c. omega (arith, place c))
-    (λ c. omega (arith, place c))
-    (λ c. omega (arith, place c))
-    (λ c. omega (arith, place c)))
+    (λ c κs. search needs)
+    (λ c. omega (arith, begins c, inside c))
+    (λ c. omega (arith, begins c, inside c))
+    (λ c. rw (begins c, c .before .base-of .ensures)))

@@ -10,26 +10,27 @@ returns c = rw (c .refused .ensures) (start-17 _ _ _ _ _ _ _ _ (c .before .if1 .
 
 begin-requires : tie.Need-begin-requires
 begin-requires c κs =
-    let c5 = c .before .before .before .before .before in
-    let args = c5 .before .before .before .before .before .before .args in
-    start-ready _ _ _ (now (args .memory)) (c5 .check .result) _ _ _ (c5 .before .before .if1 .left) (c5 .check .ensures .0)
-    (c .before .enum-told2 .given .1)
+    let c7 = c .before .before .before .before .before .before .before in
+    let a = c7 .before .before .before .before .before .before .args in
+    let accepted = c .before .before .enum-told2 .given .1 in
+    let ready = start-ready _ _ _ (now (a .memory)) (c7 .check-begins .result .verdict) _ _ _ (c7 .before .before .if1 .left) (c7 .check-begins .ensures .0) accepted in
+    ((ready .0, c7 .check-begins .ensures .1 .1 _ _ accepted), ready .1)
 
 returns-2 : tie.Need-returns-2
 returns-2 c =
-    let c5 = c .before .before .before .before .before in
+    let c6 = c .before .before .before .before .before .before in
     rw (c .refused2 .ensures) (
-      start-refused _ _ _ _ _ _ _ _ (c5 .before .before .if1 .left) (c5 .check .result) _ (c5 .check .ensures .0) _ _ (c .before .enum-told .given .1),
-      numbered-check (c5 .check .ensures .1),
+      start-refused _ _ _ _ _ _ _ _ (c6 .before .before .if1 .left) (c6 .check-begins .result .verdict) _ (c6 .check-begins .ensures .0) _ _ (c .before .enum-told .given .1),
+      numbered-check (c6 .check-begins .ensures .1 .0),
     )
 
 returns-3 : tie.Need-returns-3
 returns-3 c =
-    let c4 = c .before .before .before .before in
-    let c8 = c4 .before .before .before .before in
+    let c5 = c .before .before .before .before .before in
+    let c10 = c5 .before .before .before .before .before in
     rw (c .before .before .begin .ensures .0, c .before .before .begin .ensures .1) (
-      start-accepted _ _ _ _ _ _ _ _ (c8 .before .before .if1 .left) (c8 .check .result) _ (c8 .check .ensures .0) _ _ (c4 .enum-told2 .given .1),
-      numbered-check (c8 .check .ensures .1),
+      start-accepted _ _ _ _ _ _ _ _ (c10 .before .before .if1 .left) (c10 .check-begins .result .verdict) _ (c10 .check-begins .ensures .0) _ _ (c5 .enum-told2 .given .1),
+      numbered-check (c10 .check-begins .ensures .1 .0),
     )
 
 pub start-spec : {M : Type 1} → statement M

@@ -4,6 +4,9 @@ use Prim.Native.Nat.{ℕ, _-_}
 use mathlib.Core.Path.{sym, ap, _∙_}
 use native.Mathlib.Omega.{arith}
 use lib.ListN.{length, length-replicate}
+use denote.Ref.{now}
+use Rattle.image.proofs.Layouts.{valid-bounds}
+use Rattle.decode_pass.specs.Pass.{RoutineOf}
 use Rattle.checker.specs.Internal.{Clean}
 use Rattle.checker.proofs.Routines.{Between, between-none, zeros-clean, routine-ready, need-fits, swept-stopped, between-more, swept-ended}
 use Rattle.checker.proofs.sweep.sweep_routines.Statement.{statement}
@@ -20,7 +23,18 @@ loop-holds : tie.Need-loop-holds Inv-loop μ-loop
 loop-holds c = (between-none (c .before .before .before .pre .2) (c .begun .ensures), zeros-clean _)
 
 routine-at-requires : tie.Need-routine-at-requires Inv-loop μ-loop
-routine-at-requires c κs = let l = c .before .before .before in (l .before .before .before .before .pre .0, c .if1 .taken, l .loop .inv .0 .at)
+routine-at-requires c κs =
+    let p = c .before .before .before .before .before .before .before .pre in
+    (c .if1 .taken, valid-bounds _ _ _ (p .0) .count .1)
+
+-- the next routine
+next : (r : tie.After-routine-at Inv-loop μ-loop) →
+    let a = r .before .before .before .before .before .before .before .before .args in
+    RoutineOf (now (a .image)) (r .routine-at .result)
+next r =
+    let l = r .before .before .before .before in
+    let p = l .before .before .before .before .pre in
+    r .routine-at .ensures .0 _ (p .0) (p .1) (l .loop .inv .0 .at)
 
 check-routine-requires : tie.Need-check-routine-requires Inv-loop μ-loop
 check-routine-requires c κs =
@@ -28,7 +42,7 @@ check-routine-requires c κs =
     let l = r .before .before .before .before in
     let p = l .before .before .before .before .pre in
     let is = r .routine-at .ensures .1 in
-    let routine = r .routine-at .ensures .0 in (
+    let routine = next r in (
       routine,
       λ k below. p .1 k (omega (arith, is .0, r .before .if1 .taken)),
       rw (is .1) (l .loop .inv .1),
@@ -47,7 +61,7 @@ returns c =
     let x = c .before .before .before .before .before in
     let r = x .before .before .before .before .before in
     let l = r .before .before .before .before in
-    swept-stopped (l .before .before .before .before .pre .0) (l .loop .inv .0) (r .routine-at .ensures .0) (r .routine-at .ensures .1)
+    swept-stopped (l .before .before .before .before .pre .0) (l .loop .inv .0) (next r) (r .routine-at .ensures .1)
     (x .check-routine .ensures .0) (c .before .if2 .taken) (c .stopped .ensures)
 
 closed-requires : tie.Need-closed-requires Inv-loop μ-loop
@@ -55,7 +69,7 @@ closed-requires c κs =
     let x = c .before .before .before .before in
     let r = x .before .before .before .before .before in
     let l = r .before .before .before .before in
-    let routine = r .routine-at .ensures .0 in
+    let routine = next r in
     let is = r .routine-at .ensures .1 in (
       omega (arith, is .0, routine .index),
       need-fits (l .before .before .before .before .pre .0) (l .loop .inv .0) routine is (x .check-routine .ensures .0) (c .if2 .left),
@@ -69,7 +83,7 @@ loop-again c =
     let x = c .before .before .before .before .before in
     let r = x .before .before .before .before .before in
     let l = r .before .before .before .before in (
-      between-more (l .before .before .before .before .pre .0) (l .loop .inv .0) (r .routine-at .ensures .0) (r .routine-at .ensures .1)
+      between-more (l .before .before .before .before .pre .0) (l .loop .inv .0) (next r) (r .routine-at .ensures .1)
           (x .check-routine .ensures .0) (c .before .if2 .left) (c .closed .ensures),
       rw (c .closed .ensures .1) (x .check-routine .ensures .1 (c .before .if2 .left)),
     )

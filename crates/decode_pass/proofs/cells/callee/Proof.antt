@@ -4,7 +4,7 @@ use mathlib.Core.Path.{_≡_, sym, _∙_}
 use mathlib.Core.List.{List}
 use native.Mathlib.Nat.{sub-zero}
 use Rattle.acceptance.specs.Cells.{beginning}
-use Rattle.decode_pass.specs.Pass.{Begins}
+use Rattle.image.specs.Lengths.{Begins}
 use Rattle.decode_pass.proofs.Callees.{callee-below, callee-above, beginning-stop, beginning-more, beginning-done}
 use native.Mathlib.Omega.{arith}
 use Rattle.decode_pass.proofs.cells.callee.Statement.{statement}

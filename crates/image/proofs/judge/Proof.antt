@@ -1,11 +1,11 @@
--- `image::validate` meets its contract.
+-- `image::judge` meets its contract.
 use Rattle.numbers.specs.Folds.{firstIn}
 use Rattle.numbers.proofs.Folding.{first-assoc, first-none}
 use Rattle.image.specs.Image.{versionOf}
 use Rattle.image.specs.Validation.{validated, refusal, versionCheck}
 use borrow.Author.Needs.{needs}
-use Rattle.image.proofs.validate.Statement.{statement}
-use Rattle.image.proofs.validate.Tie as tie
+use Rattle.image.proofs.judge.Statement.{statement}
+use Rattle.image.proofs.judge.Tie as tie
 
 returns : tie.Need-returns
 unfolding firstIn validated refusal versionCheck versionOf
@@ -16,8 +16,8 @@ returns c =
     (rw (c4 .layout-check .ensures .0, c4 .layout-check .ensures .1, c4 .before .differ .ensures, c4 .before .before .word-at .ensures)
     (rw (c4 .before .before .before .mark-check .ensures, c8 .limits-check .ensures) (simp (first-assoc, first-none))))
 
-pub validate-spec : {M : Type 1} → statement M
-validate-spec =
+pub judge-spec : {M : Type 1} → statement M
+judge-spec =
     tie.close
     (tie.spec
     (λ c κs. search needs)
