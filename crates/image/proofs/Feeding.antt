@@ -9,7 +9,7 @@ use native.Mathlib.Omega.{arith}
 use lib.Dec.{eqb, ltb}
 use lib.ListN.{length, getD, take, set, length-set}
 use lib.Seq.{take-suc, getD-set-same, getD-set-other}
-use native.Mathlib.Nat.{zero-add}
+use native.Mathlib.Nat.{zero-add, mod-eq-of-lt}
 use borrow.Author.Tests.{eqb-true, eq-eqb, ne-eqb, le-ltb, ltb-false}
 use borrow.Author.Count.{below-more}
 use Rattle.numbers.specs.Checks.{first, under, unless}
@@ -17,10 +17,14 @@ use Rattle.numbers.specs.Folds.{total, firstIn}
 use Rattle.numbers.proofs.Folding.{first-none, first-assoc}
 use Rattle.numbers.specs.Words.{wordAt}
 use Rattle.image.specs.Image.{countOf, lengthsOf, lengthAt, startOf}
-use Rattle.image.specs.Lengths.{unfed, fed, afterAll, SomeZero, BeginsTo16}
+use Rattle.image.specs.Lengths.{unfed, fed, cut, afterAll, SomeZero, BeginsTo16}
 use Rattle.image.specs.Validation.{lengthCheck, lengthsCheck}
 use Rattle.image.specs.declared.lengths.LengthState.{LengthState}
 use Rattle.image.proofs.Measuring.{lengths-count, length-listed}
+
+-- a sum under 2^32 is not cut
+pub cut-whole : (s : LengthState) → s .sum < 0x100000000 → cut s ≡ s
+cut-whole s h = rw (mod-eq-of-lt h)
 
 fed-append : (s : LengthState) (a b : List ℕ) → foldl fed s (a ++ b) ≡ foldl fed (foldl fed s a) b
 fed-append s [] b = refl

@@ -20,6 +20,10 @@ fed state length = record { sum = state .sum + length; empty = cond (eqb length 
 unfoldable pub afterAll : List ℕ → LengthState
 afterAll lengths = foldl fed unfed lengths
 
+-- a state whose sum has 32 bits: the sum is whole where it is under 2^32
+abbrev pub cut : LengthState → LengthState
+cut state = record { sum = state .sum % 0x100000000; empty = state .empty }
+
 -- some length of a list is 0
 abbrev pub SomeZero : List ℕ → Type 0
 SomeZero lengths = (k : ℕ) × (k < length lengths) × (getD lengths k 0 ≡ 0)

@@ -1,10 +1,9 @@
 // The length list in one pass: a state of fixed size that is fed each length once, in table order, and knows nothing of the file.
 ghost use mathlib.Core.Path.{_≡_};
 ghost use mathlib.Core.Bool.{cond};
-ghost use Prim.Native.Nat.{_+_, _<_};
 ghost use lib.Dec.{ltb};
 ghost use lib.ListN.{getD};
-ghost use Rattle.image.specs.Lengths.{unfed, fed};
+ghost use Rattle.image.specs.Lengths.{unfed, fed, cut};
 use std::num::wrapping_add_u32;
 
 // The sum of the lengths so far, which is under 2^24 for the 255 of the longest list, and whether one of them was 0.
@@ -24,9 +23,9 @@ impl LengthState {
         }
     }
 
-    // After one more length. A sum past 32 bits, which no list of 255 comes to, is left free.
+    // After one more length; a sum past 32 bits, which no list of 255 comes to, loses the bits above.
     pub fn feed(self, length: u16) -> LengthState
-        ensures { λ r. ⌜ (self .sum + length < 0x100000000 → r ≡ fed self length) ⌝ }
+        ensures { λ r. ⌜ r ≡ cut (fed self length) ⌝ }
     {
         let sum = wrapping_add_u32(self.sum, length as u32);
         let empty = if length == 0 { true } else { self.empty };

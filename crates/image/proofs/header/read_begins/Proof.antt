@@ -10,7 +10,7 @@ use borrow.Author.Needs.{needs}
 use Rattle.image.specs.Image.{countOf, lengthsOf, startOf}
 use Rattle.image.specs.Lengths.{afterAll, BeginsTo16}
 use Rattle.image.proofs.Measuring.{lengths-count}
-use Rattle.image.proofs.Feeding.{state-next, state-sum, gathered-size, gathered}
+use Rattle.image.proofs.Feeding.{cut-whole, state-next, state-sum, gathered-size, gathered}
 use Rattle.image.proofs.header.read_begins.Statement.{statement}
 use Rattle.image.proofs.header.read_begins.Tie as tie
 
@@ -38,7 +38,7 @@ loop-again c =
     let image = now (l .before .before .before .before .args .image) in
     let k = l .loop .k in
     let own = l .loop .inv .2 in
-    let next = c .feed .ensures (small c) in
+    let next = c .feed .ensures ∙ cut-whole _ (small c) in
     let below : k < countOf image = rw (l .before .before .count-of .ensures) at (g .before .before .loop-test .taken) in (
       omega arith,
       rw (g .gather .ensures) (gathered-size image k (l .loop .begins) _ (l .loop .inv .1)),

@@ -9,7 +9,7 @@ use borrow.Author.Needs.{needs}
 use Rattle.image.specs.Image.{countOf, lengthsOf}
 use Rattle.image.specs.Lengths.{afterAll}
 use Rattle.image.proofs.Measuring.{lengths-count}
-use Rattle.image.proofs.Feeding.{state-next}
+use Rattle.image.proofs.Feeding.{cut-whole, state-next}
 use Rattle.image.proofs.header.read_lengths.Statement.{statement}
 use Rattle.image.proofs.header.read_lengths.Tie as tie
 
@@ -31,7 +31,7 @@ loop-again : tie.Need-loop-again Inv-loop μ-loop
 loop-again c =
     let l = c .before .before .before in
     let image = now (l .before .before .before .before .args .image) in
-    let next = c .feed .ensures (small c) in
+    let next = c .feed .ensures ∙ cut-whole _ (small c) in
     let below : l .loop .k < countOf image = rw (l .before .before .count-of .ensures) at (c .before .before .loop-test .taken) in
     (omega arith, state-next image (l .loop .k) below (l .loop .inv .1) (c .before .word-at .ensures) next, rw next (omega (arith, l .loop .inv .2)))
 
