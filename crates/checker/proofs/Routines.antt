@@ -6,8 +6,6 @@ use mathlib.Core.Bool.{Bool, true, false}
 use mathlib.Core.List.{List}
 use native.Mathlib.Omega.{arith}
 use lib.ListN.{length, getD, take, drop, set, replicate, length-replicate}
-use lib.Seq.{getD-set-same, getD-set-other}
-use borrow.Author.Count.{below-more}
 use Rattle.numbers.specs.Bits.{flag}
 use Rattle.image.specs.Image.{countOf, codeAt, sizeOf, startOf, endOf, mainOf}
 use Rattle.image.specs.Lengths.{Begins}
@@ -36,14 +34,6 @@ use Rattle.decode_pass.specs.declared.Routine.{Routine}
 use Rattle.decode_pass.proofs.DecodePass.{fault-some, start-below}
 use Rattle.checker.specs.Internal.{Clean, NeedsBelow, Swept, ended, stopped, Small}
 use Rattle.checker.specs.declared.sweep.Sweep.{Sweep}
-
--- where one routine more begins
-pub begins-more : (image begins : List ℕ) (k at : ℕ) → k < length begins → at ≡ startOf image k → Begins image begins k →
-    Begins image (set begins k at) (k + 1)
-begins-more image begins k at inside e before =
-    below-more (λ j. getD (set begins k at) j 0 ≡ startOf image j) k
-    (λ j h. getD-set-other begins k j at 0 (λ z. omega arith) ∙ before j h)
-    (getD-set-same begins k at 0 inside ∙ e)
 
 -- a routine with the code cut out of its image
 pub code-given : {image begins : List ℕ} {r : Routine} {at : ℕ} → at ≡ codeAt image → RoutineOf image r → Begins image begins (r .index) →

@@ -1,17 +1,15 @@
 -- The length list of an image, and where its routines begin and end.
 use Prim.Native.Nat.{ℕ, _+_, _*_, _-_, _<_, _≤_}
 use mathlib.Core.Path.{_≡_, refl, _∙_, ap}
-use mathlib.Core.List.{List, map}
+use mathlib.Core.List.{List}
 use native.Mathlib.Omega.{arith}
-use lib.ListN.{length, List·getD-eq-default, List·getD-map, length-map, take, length-drop}
+use lib.ListN.{length, length-drop}
 use lib.Seq.{take-all}
-use Rattle.numbers.specs.Checks.{first}
-use Rattle.numbers.specs.Folds.{total, firstIn}
+use Rattle.numbers.specs.Folds.{total}
 use Rattle.numbers.specs.Words.{wordAt}
 use Rattle.numbers.proofs.Computing.{mapped-length, mapped-at}
-use Rattle.numbers.proofs.Folding.{total-more, total-front, total-rises, firstIn-more}
+use Rattle.numbers.proofs.Folding.{total-more, total-front, total-rises}
 use Rattle.image.specs.Image.{countOf, lengthsOf, lengthAt, sizeOf, startOf, endOf, codeAt, codeOf}
-use Rattle.image.specs.Validation.{lengthCheck, lengthsCheck}
 
 module _ (image : List ℕ) where
   pub lengths-count : length (lengthsOf image) ≡ countOf image
@@ -23,10 +21,6 @@ module _ (image : List ℕ) where
   length-listed k h =
       mapped-at (λ k. wordAt image (8 + 2 * k)) (countOf image) 0 k 0 h ∙
       ap (λ n. wordAt image (8 + 2 * n)) (omega arith)
-
-  pub length-past : (k : ℕ) → countOf image ≤ k → lengthAt image k ≡ 0
-  unfolding lengthAt
-  length-past k h = List·getD-eq-default (lengthsOf image) 0 (omega (arith, lengths-count))
 
   -- routine 0 begins at the first code byte, each other one where the one before it ends, and the last one ends with the code
   pub start-zero : startOf image 0 ≡ 0

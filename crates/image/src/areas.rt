@@ -42,7 +42,7 @@ pub fn apart(a: Area, b: Area) -> bool
 }
 
 // 1 where the limits break a rule.
-pub fn limits_check(limits: Limits) -> u8
+pub(crate) fn limits_check(limits: Limits) -> u8
     ensures { λ r. ⌜ r ≡ limitsCheck limits ⌝ }
 {
     let grant = limits.grant;

@@ -17,19 +17,19 @@ use numbers::words::byte_at;
 use numbers::words::word_at;
 
 // What one look at the length list tells: the state after it, and where the routines begin, to 16 bits, which no valid image passes.
-pub struct ReadBegins {
+pub(crate) struct ReadLengths {
     pub state: LengthState,
     pub begins: [u16; 32],
 }
 
 // The layout that the header says, and 4 where it breaks a rule.
-pub struct CheckedLayout {
+pub(crate) struct CheckedLayout {
     pub layout: Layout,
     pub refusal: u8,
 }
 
 // 2 where the image has under 8 bytes or does not begin with SLU.
-pub fn mark_check(image: &[u8]) -> u8
+pub(crate) fn mark_check(image: &[u8]) -> u8
     ensures { λ r. ⌜ r ≡ markCheck (now (image .entry)) ⌝ }
 {
     if image.len() < 8 {
@@ -69,22 +69,8 @@ fn gather(begins: &mut [u16; 32], k: usize, begin: u32)
     }
 }
 
-// The lengths, each read once and in their order.
-pub fn read_lengths(image: &[u8]) -> LengthState
-    ensures { λ r. ⌜ r ≡ afterAll (lengthsOf (now (image .entry))) ⌝ }
-{
-    let count = count_of(image) as usize;
-    let mut state = LengthState::new();
-    let mut k = 0;
-    while k < count {
-        state = state.feed(word_at(image, 8 + 2 * k));
-        k += 1;
-    }
-    state
-}
-
-// The same, and where the routines begin, gathered on the way.
-pub fn read_begins(image: &[u8]) -> ReadBegins
+// The lengths, each read once and in their order, and where the routines begin, gathered on the way.
+pub(crate) fn read_lengths(image: &[u8]) -> ReadLengths
     ensures { λ r. ⌜ r .state ≡ afterAll (lengthsOf (now (image .entry))) ⌝ }
     ensures { λ r. ⌜ BeginsTo16 (now (image .entry)) (r .begins) (countOf (now (image .entry))) ⌝ }
 {
@@ -98,11 +84,11 @@ pub fn read_begins(image: &[u8]) -> ReadBegins
         state = state.feed(word_at(image, at));
         k += 1;
     }
-    ReadBegins { state, begins }
+    ReadLengths { state, begins }
 }
 
 // The layout and its check, by the state after the length list.
-pub fn layout_check(image: &[u8], lengths: LengthState) -> CheckedLayout
+pub(crate) fn layout_check(image: &[u8], lengths: LengthState) -> CheckedLayout
     requires { ⌜ lengths ≡ afterAll (lengthsOf (now image)) ⌝ }
     ensures { λ r. ⌜ r .layout ≡ layoutOf (now (image .entry)) ⌝ }
     ensures { λ r. ⌜ r .refusal ≡ layoutCheck (baseOf (now (image .entry))) (lengthsOf (now (image .entry))) (length (codeOf (now (image .entry)))) ⌝ }

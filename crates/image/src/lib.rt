@@ -77,23 +77,24 @@ fn judge(image: &[u8], limits: Limits, lengths: LengthState) -> Validated
     answer(first(refusal, checked.refusal), checked.layout)
 }
 
-// The refusal or the layout of an image under limits.
-pub fn validate(image: &[u8], limits: Limits) -> Validated
-    ensures { λ r. ⌜ r ≡ validated (now (image .entry)) limits ⌝ }
-{
-    judge(image, limits, header::read_lengths(image))
-}
-
-// The same, and where the routines begin.
+// The refusal or the layout of an image under limits, and where the routines of a valid one begin.
 pub fn measure(image: &[u8], limits: Limits) -> Measured
     ensures { λ r. ⌜ r .validated ≡ validated (now (image .entry)) limits ⌝ }
     ensures { λ r. ⌜ ((layout : Layout) → r .validated ≡ Valid layout → Begins (now (image .entry)) (r .begins) (layout .count)) ⌝ }
 {
-    let read = header::read_begins(image);
+    let read = header::read_lengths(image);
     let lengths = read.state;
     let begins = read.begins;
     let validated = judge(image, limits, lengths);
     Measured { validated, begins }
+}
+
+// The refusal or the layout alone.
+pub fn validate(image: &[u8], limits: Limits) -> Validated
+    ensures { λ r. ⌜ r ≡ validated (now (image .entry)) limits ⌝ }
+{
+    let measured = measure(image, limits);
+    measured.validated
 }
 
 // Document 01's number of an answer, 0 where nothing is refused.

@@ -2,7 +2,7 @@
 use Prim.Native.Nat.{ℕ, suc, zero, _+_, _<_, _≤_, suc-le-suc, zero-le}
 use mathlib.Core.Path.{_≡_, refl, sym, _∙_, ap}
 use mathlib.Core.Bool.{Bool, true, false, cond}
-use mathlib.Core.List.{List, [], _∷_, foldr, map, sum, sum-append}
+use mathlib.Core.List.{List, [], _∷_, map, sum, sum-append}
 use native.Mathlib.Numerals.{add-one}
 use native.Mathlib.Omega.{arith}
 use native.Mathlib.Nat.{add-zero, zero-add, add-assoc, le-of-suc-le-suc, not-suc-le-zero}
@@ -30,22 +30,12 @@ first-assoc a b c = go (eqb a 0) refl
     go true p = refl
     go false p = rw p
 
--- one element more, where the operation is associative and has a unit
-fold-more : (f : ℕ → ℕ → ℕ) (z : ℕ) →
-    ((a : ℕ) → f z a ≡ a) → ((a : ℕ) → f a z ≡ a) → ((a b c : ℕ) → f (f a b) c ≡ f a (f b c)) →
-    (l : List ℕ) (k d : ℕ) → k < length l → foldr f z (take (k + 1) l) ≡ f (foldr f z (take k l)) (getD l k d)
-unfolding sum
-fold-more f z left right assoc l k d h =
-    rw (add-one, take-suc l k d h)
-    (sum-append f z left assoc (take k l) (getD l k d ∷ []) ∙ ap (f (foldr f z (take k l))) (right (getD l k d)))
-
+-- the sum of one element more
 pub total-more : (l : List ℕ) (k d : ℕ) → k < length l → total (take (k + 1) l) ≡ total (take k l) + getD l k d
-unfolding total
-total-more = fold-more _+_ 0 zero-add add-zero add-assoc
-
-pub firstIn-more : (l : List ℕ) (k d : ℕ) → k < length l → firstIn (take (k + 1) l) ≡ first (firstIn (take k l)) (getD l k d)
-unfolding firstIn
-firstIn-more = fold-more first 0 first-pass first-none first-assoc
+unfolding sum total
+total-more l k d h =
+    rw (add-one, take-suc l k d h)
+    (sum-append _+_ 0 zero-add add-assoc (take k l) (getD l k d ∷ []) ∙ ap (λ n. total (take k l) + n) (add-zero (getD l k d)))
 
 -- the sum of a front part, and of a longer one
 total-split : (k : ℕ) (l : List ℕ) → total (take k l) + total (drop k l) ≡ total l

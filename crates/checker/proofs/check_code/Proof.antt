@@ -1,8 +1,7 @@
 -- `checker::check_code` meets its contract.
-use mathlib.Core.Path.{sym, ap, _∙_}
-use native.Mathlib.Omega.{arith}
+use mathlib.Core.Path.{ap, _∙_}
 use lib.ListN.{length, replicate, length-replicate}
-use Rattle.image.proofs.Layouts.{valid-bounds, count-is, size-is}
+use Rattle.image.proofs.Layouts.{valid-bounds, size-is}
 use Rattle.checker.proofs.Verdicts.{code-outcome}
 use borrow.Author.Needs.{needs}
 use Rattle.checker.proofs.check_code.Statement.{statement}

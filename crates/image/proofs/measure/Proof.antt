@@ -7,7 +7,7 @@ use Rattle.image.proofs.measure.Tie as tie
 
 returns : tie.Need-returns
 returns c =
-    let read = c .before .before .before .read-begins in
+    let read = c .before .before .before .read-lengths in
     (c .judge .ensures, λ layout valid. begins-whole _ _ _ (sym (c .judge .ensures) ∙ valid) (read .result .begins) (read .ensures .1))
 
 pub measure-spec : {M : Type 1} → statement M
