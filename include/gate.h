@@ -13,7 +13,7 @@
  * caller's stack. Calls may go on at the same time, in threads or in an interrupt, if no cell that one of them writes is an
  * argument of another; an image, which is only read, may be shared.
  *
- * gate_check and gate_start take some 81 KiB of the caller's stack, whatever the image (82,784 bytes at most were measured): a
+ * gate_check and gate_start take some 81 KiB of the caller's stack, whatever the image (82,976 bytes at most were measured): a
  * check's arrays, of a few numbers about each code byte, have 81,920 bytes. No other function takes 4 KiB (3,384 bytes measured).
  *
  * The library is for x86-64 with the System V calling convention. A slice is passed as two arguments, the address of its first cell
