@@ -12,7 +12,14 @@
 
 #define HEADER_BYTES 8u /* SLU, version, base and routine count; a length of two bytes for each routine follows */
 
-enum { GRANT_LOW = 0x0000, GRANT_HIGH = 0x00FF, STACK_LOW = 0x0300, STACK_HIGH = 0x03FF, BUDGET = 100000 };
+enum { BUDGET = 100000 };
+
+/* The second grant is in data EEPROM; GATE_NO_AREA would be none. */
+static const struct gate_limits limits = {
+    .grant = { 0x0000, 0x00FF },
+    .stack = { 0x0300, 0x03FF },
+    .second = { 0x4000, 0x401F },
+};
 
 /* Document 01's example: one routine that stores 5 at 0010. */
 static const uint8_t store_five[] = {
@@ -26,7 +33,13 @@ static const uint8_t sum_to_hundred[] = {
     0x3F, 0x20, 0x3F, 0x21, 0xAE, 0x00, 0x64, 0x9F, 0xCD, 0x80, 0x00, 0x5A, 0x26, 0xF9, 0x81,
 };
 
-/* It stores at 0100, past the grant. */
+/* It widens the trim at 4000, in the second grant, by one step and copies it to 0019. */
+static const uint8_t trim[] = {
+    0x53, 0x4C, 0x55, 0x00, 0x01, 0x80, 0x00, 0x01, 0x00, 0x0A,
+    0x72, 0x5C, 0x40, 0x00, 0x55, 0x40, 0x00, 0x00, 0x19, 0x81,
+};
+
+/* It stores at 0100, past the first grant and not in the second. */
 static const uint8_t store_outside[] = {
     0x53, 0x4C, 0x55, 0x00, 0x01, 0x80, 0x00, 0x01, 0x00, 0x04, 0xC7, 0x01, 0x00, 0x81,
 };
@@ -49,13 +62,20 @@ static void list(const uint8_t *image, size_t image_length)
     }
 }
 
+/* The bytes of an area that are not 0. */
+static void print_area(struct gate_area area)
+{
+    for (unsigned address = area.low; address <= area.high; address++)
+        if (memory[address] != 0)
+            printf("  %04X: %02X\n", address, (unsigned)memory[address]);
+}
+
 static void print_state(const uint32_t registers[GATE_REGISTERS])
 {
     printf("  A %02" PRIX32 ", X %04" PRIX32 ", Y %04" PRIX32 ", CC %02" PRIX32 ", SP %04" PRIX32 ", PC %06" PRIX32 "\n",
            registers[GATE_A], registers[GATE_X], registers[GATE_Y], registers[GATE_CC], registers[GATE_SP], registers[GATE_PC]);
-    for (unsigned address = GRANT_LOW; address <= GRANT_HIGH; address++)
-        if (memory[address] != 0)
-            printf("  %04X: %02X\n", address, (unsigned)memory[address]);
+    print_area(limits.grant);
+    print_area(limits.second);
 }
 
 static void load(const char *name, const uint8_t *image, size_t image_length)
@@ -64,16 +84,15 @@ static void load(const char *name, const uint8_t *image, size_t image_length)
     uint16_t report[GATE_REPORT];
     uint32_t steps[1];
     memset(memory, 0, sizeof memory);
-    const uint8_t verdict = gate_start(image, image_length, GRANT_LOW, GRANT_HIGH, STACK_LOW, STACK_HIGH,
-                                       marks, GATE_MARKS_ENOUGH, memory, sizeof memory, registers, report);
+    const uint8_t verdict = gate_start(image, image_length, &limits, marks, GATE_MARKS_ENOUGH,
+                                       memory, sizeof memory, registers, report);
     if (verdict != GATE_OK) {
         printf("%s: refused %u %u\n", name, (unsigned)verdict, (unsigned)report[GATE_OFFSET]);
         return;
     }
     printf("%s: accepted %u %u\n", name, (unsigned)report[GATE_NEED], (unsigned)report[GATE_COUNT]);
     list(image, image_length);
-    const uint8_t ending = gate_run(image, image_length, GRANT_LOW, GRANT_HIGH, STACK_LOW, STACK_HIGH,
-                                    memory, sizeof memory, registers, BUDGET, steps);
+    const uint8_t ending = gate_run(image, image_length, &limits, memory, sizeof memory, registers, BUDGET, steps);
     if (ending == GATE_FINISHED)
         printf("  finished after %" PRIu32 " steps\n", steps[0]);
     else
@@ -85,6 +104,7 @@ int main(void)
 {
     load("store five", store_five, sizeof store_five);
     load("sum to a hundred", sum_to_hundred, sizeof sum_to_hundred);
+    load("trim", trim, sizeof trim);
     load("store outside", store_outside, sizeof store_outside);
     return 0;
 }

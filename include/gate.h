@@ -2,22 +2,22 @@
  *
  * Every function is total: whatever the bytes, numbers and lengths, it returns, and what it leaves in each cell is said below.
  * What C must see to, as for any pointer: each pointer is not null (where a length is 0 any address that is not null will do),
- * aligned for its type, and leads to as many cells as its length, or its array type, says; and no cell that a function writes
- * lies in another of its arguments.
+ * aligned for its type, and leads to as many cells as its length, its array type or its struct says; and no cell that a function
+ * writes lies in another of its arguments.
  *
- * Numbers are those of document 01; addresses are 16 bits, PC has 24. Limits are four addresses, ends included. The cell of PC has
- * 32 bits and is read whole: a value above FFFFFF is in no code, so a step that is not refused traps 22 there (21 where SP is out
- * of its range too) and leaves the cell as it was. No step that is made leaves PC above 01007F.
+ * Numbers are those of document 01; addresses are 16 bits, PC has 24. The cell of PC has 32 bits and is read whole: a value above
+ * FFFFFF is in no code, so a step that is not refused traps 22 there (21 where SP is out of its range too) and leaves the cell as
+ * it was. No step that is made leaves PC above 01007F.
  *
  * Every function is re-entrant: the library keeps nothing between calls and writes no cell but those of its arguments and the
  * caller's stack. Calls may go on at the same time, in threads or in an interrupt, if no cell that one of them writes is an
- * argument of another; an image, which is only read, may be shared.
+ * argument of another; an image and limits, which are only read, may be shared.
  *
- * gate_check and gate_start take some 81 KiB of the caller's stack, whatever the image (82,976 bytes at most were measured): a
+ * gate_check and gate_start take some 81 KiB of the caller's stack, whatever the image (82,992 bytes at most were measured): a
  * check's arrays, of a few numbers about each code byte, have 81,920 bytes. No other function takes 4 KiB (3,384 bytes measured).
  *
  * The library is for x86-64 with the System V calling convention. A slice is passed as two arguments, the address of its first cell
- * and its length, a number of cells and not of bytes; an array of fixed size is passed as its address alone. */
+ * and its length, a number of cells and not of bytes; an array of fixed size, or a struct, is passed as its address alone. */
 #ifndef GATE_H
 #define GATE_H
 
@@ -31,7 +31,7 @@ extern "C" {
 /* Answers of every function: 0, a refusal, a trap, or 64 and 65, which document 01 has no number for. */
 enum gate_number {
     GATE_OK = 0,                    /* accepted, started, made, decoded */
-    GATE_LIMITS = 1,                /* limits break a rule */
+    GATE_LIMITS = 1,                /* limits break a rule of struct gate_limits */
     GATE_NOT_SLU = 2,               /* under 8 bytes, or not SLU */
     GATE_VERSION = 3,               /* version not 0001 */
     GATE_LAYOUT = 4,                /* another rule of the layout is broken */
@@ -42,7 +42,7 @@ enum gate_number {
     GATE_TRUNCATED = 9,             /* the bytes end too soon */
     GATE_INTO_INSTRUCTION = 10,     /* a jump into an instruction */
     GATE_DEPTH_RANGE = 11,          /* depth leaves 0 to 255, or RET above 0 */
-    GATE_STORE = 12,                /* a store that is not allowed */
+    GATE_STORE = 12,                /* a direct store not wholly in a grant, or an SP store outside 1 to the depth */
     GATE_JUMP = 13,                 /* a jump leaves its routine */
     GATE_CALL = 14,                 /* a call that is not to an earlier routine */
     GATE_FALLS_OFF = 15,            /* falls off its routine */
@@ -52,7 +52,7 @@ enum gate_number {
     GATE_TRAP_PC = 22,              /* PC is not in the code, or the bytes run out */
     GATE_TRAP_OUTSIDE = 23,         /* outside the set */
     GATE_TRAP_STACK = 24,           /* SP would leave its range */
-    GATE_TRAP_STORE = 25,           /* a store outside the grant, or an SP store outside SP + 1 to stack high */
+    GATE_TRAP_STORE = 25,           /* a direct store not wholly in a grant, or an SP store outside SP + 1 to stack high */
     GATE_FINISHED = 64,             /* a step that began at PC 0; a run that reached it */
     GATE_SPENT = 65                 /* a run that used up its budget, PC not 0 */
 };
@@ -61,19 +61,39 @@ enum gate_number {
 #define GATE_MARKS_ENOUGH 4096u     /* marks that are enough for every image */
 #define GATE_TEXT_BYTES 24u         /* the cells of a text, its final 0 included */
 
+/* Addresses, ends included. */
+struct gate_area { uint16_t low, high; };
+
+/* The areas that a routine may write: the grant, its stack, and a second grant, which there need not be. A routine that was started
+ * under its limits changes no other byte of memory.
+ *
+ * Grant and stack: low is not above high, both are at most 7FFF, stack low is at least 1, and the two don't meet. Second grant:
+ * low above high means none, whatever the values; any other is at most 7FFF too and meets neither the grant nor the stack. A direct
+ * store, both bytes of a word included, lies wholly in one of the grants: a word over the seam of two that touch is in neither.
+ *
+ * Where there is no second grant, say GATE_NO_AREA. One that an initialiser leaves out is 0000-0000, which is not none but one
+ * byte: the routine may store at 0000, or the limits are refused because it meets a grant that begins there. */
+struct gate_limits { struct gate_area grant, stack, second; };
+
+/* The initialiser of a second grant that is none. */
+#define GATE_NO_AREA { 0xFFFF, 0x0000 }
+
+/* The library reads limits as six 16-bit cells, in this order and with nothing between them. */
+typedef char gate_limits_are_six_cells[sizeof(struct gate_limits) == 12 ? 1 : -1];
+
 /* The cells of a register array. */
 enum gate_register { GATE_A, GATE_X, GATE_Y, GATE_CC, GATE_SP, GATE_PC, GATE_REGISTERS };
 
 /* The cells of a report. */
 enum gate_report { GATE_OFFSET, GATE_NEED, GATE_COUNT, GATE_REPORT };
 
-/* Checks an image under limits. The answer is 0 (accepted) or a refusal from 1 to 16.
+/* Checks an image under limits. The answer is 0 (accepted) or a refusal from 1 to 16; 1 is of the limits, whatever the image.
  * report: the refusal's offset from the first code byte, 0 for all but 6 to 15 (7 points at its routine's first byte, the others
  * at the instruction to look at); the need; the count of starts. Offset is 0 where accepted, need and count are 0 where refused.
  * marks: accepted, each start's mark is its depth + 1 and every other code byte's is 0; after 6 to 16 all code marks are 0; after
  * 1 to 5 none has changed. Cells past the code never change. */
 uint8_t gate_check(const uint8_t *image, size_t image_length,
-                   uint16_t grant_low, uint16_t grant_high, uint16_t stack_low, uint16_t stack_high,
+                   const struct gate_limits *limits,
                    uint16_t *marks, size_t marks_length,
                    uint16_t report[GATE_REPORT]);
 
@@ -81,7 +101,7 @@ uint8_t gate_check(const uint8_t *image, size_t image_length,
  * CC as they were given (their low 8 or 16 bits), SP two below stack high, and PC at main. Refused, no memory is written and all
  * registers are 0. report and marks are as gate_check leaves them; after 17 the report is zeros and no mark has changed. */
 uint8_t gate_start(const uint8_t *image, size_t image_length,
-                   uint16_t grant_low, uint16_t grant_high, uint16_t stack_low, uint16_t stack_high,
+                   const struct gate_limits *limits,
                    uint16_t *marks, size_t marks_length,
                    uint8_t *memory, size_t memory_length,
                    uint32_t registers[GATE_REGISTERS],
@@ -92,7 +112,7 @@ uint8_t gate_start(const uint8_t *image, size_t image_length,
  *   0: registers and memory are those after the instruction, and PC may now be 0.
  *   GATE_FINISHED, a trap or a refusal: registers come back as they were read, and memory is as it was. */
 uint8_t gate_step(const uint8_t *image, size_t image_length,
-                  uint16_t grant_low, uint16_t grant_high, uint16_t stack_low, uint16_t stack_high,
+                  const struct gate_limits *limits,
                   uint8_t *memory, size_t memory_length,
                   uint32_t registers[GATE_REGISTERS]);
 
@@ -106,7 +126,7 @@ uint8_t gate_step(const uint8_t *image, size_t image_length,
  * Where no step was made, "after the last step made" is as they were read. Budget 0 makes none: finished where PC is 0, else
  * spent. */
 uint8_t gate_run(const uint8_t *image, size_t image_length,
-                 uint16_t grant_low, uint16_t grant_high, uint16_t stack_low, uint16_t stack_high,
+                 const struct gate_limits *limits,
                  uint8_t *memory, size_t memory_length,
                  uint32_t registers[GATE_REGISTERS],
                  uint32_t budget, uint32_t steps[1]);

@@ -15,18 +15,18 @@ pub type ReportCells = [u16; 3];
 /// The cells of a register set: A, X, Y, CC, SP, PC.
 pub type RegisterCells = [u32; 6];
 
+// The library reads limits as six 16-bit cells.
+const _: () = assert!(size_of::<Limits>() == 6 * size_of::<u16>());
+
 mod c {
-    use super::{RegisterCells, ReportCells, TEXT_BYTES};
+    use super::{Limits, RegisterCells, ReportCells, TEXT_BYTES};
 
     // The archive is named by build.rs; the signatures are those of include/gate.h.
     extern "C" {
         pub fn gate_check(
             image: *const u8,
             image_length: usize,
-            grant_low: u16,
-            grant_high: u16,
-            stack_low: u16,
-            stack_high: u16,
+            limits: *const Limits,
             marks: *mut u16,
             marks_length: usize,
             report: *mut ReportCells,
@@ -34,10 +34,7 @@ mod c {
         pub fn gate_start(
             image: *const u8,
             image_length: usize,
-            grant_low: u16,
-            grant_high: u16,
-            stack_low: u16,
-            stack_high: u16,
+            limits: *const Limits,
             marks: *mut u16,
             marks_length: usize,
             memory: *mut u8,
@@ -48,10 +45,7 @@ mod c {
         pub fn gate_step(
             image: *const u8,
             image_length: usize,
-            grant_low: u16,
-            grant_high: u16,
-            stack_low: u16,
-            stack_high: u16,
+            limits: *const Limits,
             memory: *mut u8,
             memory_length: usize,
             registers: *mut RegisterCells,
@@ -59,10 +53,7 @@ mod c {
         pub fn gate_run(
             image: *const u8,
             image_length: usize,
-            grant_low: u16,
-            grant_high: u16,
-            stack_low: u16,
-            stack_high: u16,
+            limits: *const Limits,
             memory: *mut u8,
             memory_length: usize,
             registers: *mut RegisterCells,
@@ -81,21 +72,9 @@ mod c {
 
 pub fn check(image: &[u8], limits: &Limits, marks: &mut [u16], report: &mut ReportCells) -> u8 {
     // SAFETY: each pointer comes from a reference that lives through the call, so it is not null (an empty slice's neither),
-    // aligned, and leads to as many cells as the length beside it or its array type says. What is written comes from `&mut`, so
-    // it lies in no other argument.
-    unsafe {
-        c::gate_check(
-            image.as_ptr(),
-            image.len(),
-            limits.grant_low,
-            limits.grant_high,
-            limits.stack_low,
-            limits.stack_high,
-            marks.as_mut_ptr(),
-            marks.len(),
-            report,
-        )
-    }
+    // aligned, and leads to as many cells as the length beside it or its array type says. `Limits` is `repr(C)`: six `u16` in the
+    // order of gate.h's struct, with nothing between them. What is written comes from `&mut`, so it lies in no other argument.
+    unsafe { c::gate_check(image.as_ptr(), image.len(), limits, marks.as_mut_ptr(), marks.len(), report) }
 }
 
 pub fn start(
@@ -111,10 +90,7 @@ pub fn start(
         c::gate_start(
             image.as_ptr(),
             image.len(),
-            limits.grant_low,
-            limits.grant_high,
-            limits.stack_low,
-            limits.stack_high,
+            limits,
             marks.as_mut_ptr(),
             marks.len(),
             memory.as_mut_ptr(),
@@ -127,19 +103,7 @@ pub fn start(
 
 pub fn step(image: &[u8], limits: &Limits, memory: &mut [u8], registers: &mut RegisterCells) -> u8 {
     // SAFETY: as for `check`: every pointer comes with its length from one reference, and what is written from `&mut`.
-    unsafe {
-        c::gate_step(
-            image.as_ptr(),
-            image.len(),
-            limits.grant_low,
-            limits.grant_high,
-            limits.stack_low,
-            limits.stack_high,
-            memory.as_mut_ptr(),
-            memory.len(),
-            registers,
-        )
-    }
+    unsafe { c::gate_step(image.as_ptr(), image.len(), limits, memory.as_mut_ptr(), memory.len(), registers) }
 }
 
 pub fn run(
@@ -151,21 +115,7 @@ pub fn run(
     steps: &mut [u32; 1],
 ) -> u8 {
     // SAFETY: as for `check`: every pointer comes with its length from one reference, and what is written from `&mut`.
-    unsafe {
-        c::gate_run(
-            image.as_ptr(),
-            image.len(),
-            limits.grant_low,
-            limits.grant_high,
-            limits.stack_low,
-            limits.stack_high,
-            memory.as_mut_ptr(),
-            memory.len(),
-            registers,
-            budget,
-            steps,
-        )
-    }
+    unsafe { c::gate_run(image.as_ptr(), image.len(), limits, memory.as_mut_ptr(), memory.len(), registers, budget, steps) }
 }
 
 pub fn decode(bytes: &[u8], address: u16, text: &mut [u8; TEXT_BYTES], length: &mut [usize; 1]) -> u8 {

@@ -7,13 +7,32 @@ pub const MARKS_ENOUGH: usize = 4_096;
 /// The cells of a text, its final 0 included.
 pub const TEXT_BYTES: usize = 24;
 
-/// The areas that a routine may write, ends included.
-#[derive(Clone, Copy, Debug, Default, PartialEq, Eq)]
+/// Addresses, ends included. It has no default: one of zeros is byte 0000, and not [`Area::NONE`].
+#[derive(Clone, Copy, Debug, PartialEq, Eq)]
+#[repr(C)]
+pub struct Area {
+    pub low: u16,
+    pub high: u16,
+}
+
+impl Area {
+    /// No address at all, as a second grant may be.
+    pub const NONE: Area = Area { low: 0xFFFF, high: 0x0000 };
+
+    /// Whether it has no address: low is above high, whatever the values.
+    pub const fn is_empty(self) -> bool {
+        self.low > self.high
+    }
+}
+
+/// The areas that a routine may write.
+#[derive(Clone, Copy, Debug, PartialEq, Eq)]
+#[repr(C)]
 pub struct Limits {
-    pub grant_low: u16,
-    pub grant_high: u16,
-    pub stack_low: u16,
-    pub stack_high: u16,
+    pub grant: Area,
+    pub stack: Area,
+    /// [`Area::NONE`], or any other that is empty, where there is no second grant.
+    pub second: Area,
 }
 
 /// The CPU's registers. PC has 24 bits; 0 means that the routine has finished.
@@ -53,7 +72,7 @@ pub enum Refusal {
     IntoInstruction = 10,
     /// Depth leaves 0 to 255, or RET above 0.
     DepthRange = 11,
-    /// A store that is not allowed.
+    /// A direct store not wholly in a grant, or an SP store outside 1 to the depth.
     Store = 12,
     /// A jump leaves its routine.
     Jump = 13,
@@ -111,7 +130,7 @@ pub enum Trap {
     Outside = 23,
     /// SP would leave its range.
     Stack = 24,
-    /// A store outside the grant, or an SP store outside SP + 1 to stack high.
+    /// A direct store not wholly in a grant, or an SP store outside SP + 1 to stack high.
     Store = 25,
 }
 

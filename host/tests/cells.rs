@@ -1,9 +1,10 @@
 //! The cells of the C interface: each function writes those that it is given, and none beside them.
 
-use gate_host::{cells, Limits, MEMORY_BYTES, TEXT_BYTES};
+use gate_host::{cells, Area, Limits, MEMORY_BYTES, TEXT_BYTES};
 use std::hint::black_box;
 
-const LIMITS: Limits = Limits { grant_low: 0x0000, grant_high: 0x00FF, stack_low: 0x0300, stack_high: 0x03FF };
+const LIMITS: Limits =
+    Limits { grant: Area { low: 0x0000, high: 0x00FF }, stack: Area { low: 0x0300, high: 0x03FF }, second: Area::NONE };
 const IMAGE: &[u8] = b"SLU\x00\x01\x80\x00\x01\x00\x05\xA6\x05\xB7\x10\x81";
 const GUARD: [u8; 16] = [0xA5; 16];
 

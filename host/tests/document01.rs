@@ -1,13 +1,28 @@
-//! Document 01's own examples, as W-202 has them, and what a careless reader of both gets wrong, through the library and through
-//! the twin.
+//! Document 01's own examples, as W-202 and W-205 have them, and what a careless reader of these gets wrong, through the library
+//! and through the twin.
 
-use gate_host::{slu, twin, Accepted, Ending, Limits, Refusal, Refused, Registers, Run, Step, Trap, MARKS_ENOUGH, MEMORY_BYTES};
+use gate_host::{
+    slu, twin, Accepted, Area, Ending, Limits, Refusal, Refused, Registers, Run, Step, Trap, MARKS_ENOUGH, MEMORY_BYTES,
+};
 
-const LIMITS: Limits = Limits { grant_low: 0x0000, grant_high: 0x00FF, stack_low: 0x0300, stack_high: 0x03FF };
+const LIMITS: Limits =
+    Limits { grant: Area { low: 0x0000, high: 0x00FF }, stack: Area { low: 0x0300, high: 0x03FF }, second: Area::NONE };
+/// A second grant in data EEPROM.
+const TRIM: Limits = Limits { second: Area { low: 0x4000, high: 0x401F }, ..LIMITS };
 /// What a mark holds before a check.
 const BLANK: u16 = 0xA5A5;
 
 type Verdict = Result<Accepted, Refused>;
+
+fn stack_from(low: u16) -> Limits {
+    Limits { stack: Area { low, ..LIMITS.stack }, ..LIMITS }
+}
+
+/// The stack of `LIMITS` and these grants, low and high.
+fn grants(first: (u16, u16), second: (u16, u16)) -> Limits {
+    let [grant, second] = [first, second].map(|(low, high)| Area { low, high });
+    Limits { grant, second, ..LIMITS }
+}
 
 fn image(routines: &[&[u8]]) -> Vec<u8> {
     slu::image_of(0x8000, routines)
@@ -61,15 +76,19 @@ fn all_accepted(table: &[(&str, u16, u16)]) {
 }
 
 /// Both steps from the same state, which must agree.
-fn step(code: &[u8], registers: Registers, memory: &[u8]) -> (Step, Registers, Vec<u8>) {
+fn step_under(limits: &Limits, code: &[u8], registers: Registers, memory: &[u8]) -> (Step, Registers, Vec<u8>) {
     let file = image(&[code]);
     let (mut one, mut other) = (memory.to_vec(), memory.to_vec());
     let (mut after, mut twin_after) = (registers, registers);
-    let answer = gate_host::step(&file, &LIMITS, &mut one, &mut after);
-    assert_eq!(answer, twin::step(&file, &LIMITS, &mut other, &mut twin_after));
+    let answer = gate_host::step(&file, limits, &mut one, &mut after);
+    assert_eq!(answer, twin::step(&file, limits, &mut other, &mut twin_after));
     assert_eq!(after, twin_after);
     assert!(one == other);
     (answer.expect("not refused"), after, one)
+}
+
+fn step(code: &[u8], registers: Registers, memory: &[u8]) -> (Step, Registers, Vec<u8>) {
+    step_under(&LIMITS, code, registers, memory)
 }
 
 const BEGIN: Registers = Registers { a: 0, x: 0, y: 0, cc: 0, sp: 0x03FD, pc: 0x8000 };
@@ -77,7 +96,7 @@ const BEGIN: Registers = Registers { a: 0, x: 0, y: 0, cc: 0, sp: 0x03FD, pc: 0x
 #[test]
 fn refusals_of_the_table() {
     let ret = image(&[&[0x81]]);
-    assert_eq!(check(&ret, &Limits { stack_low: 0, ..LIMITS }, 1), refused(1, 0));
+    assert_eq!(check(&ret, &stack_from(0x0000), 1), refused(1, 0));
     assert_eq!(check(&[0x53, 0x4C], &LIMITS, 1), refused(2, 0));
     let mut second = ret.clone();
     second[4] = 2;
@@ -98,20 +117,20 @@ fn refusals_of_the_table() {
         ("CD 80 00 81", 14, 0),
         ("9D", 15, 0),
     ]);
-    assert_eq!(check(&ret, &Limits { stack_low: 0x03FF, ..LIMITS }, 1), refused(16, 0));
+    assert_eq!(check(&ret, &stack_from(0x03FF), 1), refused(16, 0));
 }
 
 #[test]
 fn need_and_count() {
     let file = image(&[&[0x88, 0x84, 0x81], &[0xCD, 0x80, 0x00, 0x81]]);
     assert_eq!(check(&file, &LIMITS, 9), accepted(5, 5));
-    assert_eq!(check(&file, &Limits { stack_low: 0x03FB, ..LIMITS }, 7), accepted(5, 5));
-    assert_eq!(check(&file, &Limits { stack_low: 0x03FC, ..LIMITS }, 7), refused(16, 0));
+    assert_eq!(check(&file, &stack_from(0x03FB), 7), accepted(5, 5));
+    assert_eq!(check(&file, &stack_from(0x03FC), 7), refused(16, 0));
     assert_eq!(check(&image(&[&[0x20, 0xFE]]), &LIMITS, 2), accepted(2, 1));
     let (verdict, marks) = check_and_marks(&image(&[&[0x88, 0x84, 0x81]]), &LIMITS, 4);
     assert_eq!((verdict, &marks[..]), (accepted(3, 3), &[1, 2, 1, BLANK][..]));
     // A depth of 255 is allowed.
-    let deep = Limits { stack_low: 0x0200, ..LIMITS };
+    let deep = stack_from(0x0200);
     let (verdict, marks) = check_and_marks(&assembled("52 FF 5B FF 81"), &deep, 5);
     assert_eq!((verdict, &marks[..]), (accepted(257, 3), &[1, 0, 256, 0, 1][..]));
     all_accepted(&[
@@ -162,7 +181,7 @@ fn order_of_the_refusals() {
         ("20 04 CD 80 00 81 84 20 F9", 11, 2),
     ]);
     // 16 comes last of all.
-    let none = Limits { stack_low: 0x03FF, ..LIMITS };
+    let none = stack_from(0x03FF);
     assert_eq!(check(&assembled("81 | 84 81"), &none, 3), refused(11, 1));
 }
 
@@ -363,6 +382,134 @@ fn traps_of_the_table() {
     assert_eq!(trapped(&[0x8E], BEGIN), Trap::Outside);
     assert_eq!(trapped(&[0x84], Registers { sp: 0x03FF, ..BEGIN }), Trap::Stack);
     assert_eq!(trapped(&[0xC7, 0x01, 0x00], BEGIN), Trap::Store);
+}
+
+/// Whether a direct store of one byte or two is allowed: the check and a step, which must agree, say so.
+fn is_allowed(limits: &Limits, address: u16, bytes: usize) -> bool {
+    let [high, low] = address.to_be_bytes();
+    // LD $..,A or LDW $..,X
+    let code = [if bytes == 1 { 0xC7 } else { 0xCF }, high, low, 0x81];
+    let given = Registers { a: 0x5A, x: 0x5AA5, ..BEGIN };
+    let mut memory = vec![0; MEMORY_BYTES];
+    let (answer, after, left) = step_under(limits, &code, given, &memory);
+    let verdict = check(&image(&[&code]), limits, code.len());
+    let allowed = verdict == accepted(2, 2);
+    if allowed {
+        memory[usize::from(address)..][..bytes].copy_from_slice(&[0x5A, 0xA5][..bytes]);
+        assert_eq!(answer, Step::Made);
+    } else {
+        assert_eq!(verdict, refused(12, 0));
+        assert_eq!((answer, after), (Step::Trapped(Trap::Store), given));
+    }
+    assert!(left == memory, "{limits:04X?}, {bytes} at {address:04X}");
+    allowed
+}
+
+/// Addresses, and the most bytes that may be stored there.
+fn all_stores(limits: &Limits, table: &[(u16, usize)]) {
+    for &(address, most) in table {
+        for bytes in [1, 2] {
+            assert_eq!(is_allowed(limits, address, bytes), bytes <= most, "{limits:04X?}, {bytes} at {address:04X}");
+        }
+    }
+}
+
+#[test]
+fn borders_of_the_grants() {
+    all_stores(&TRIM, &[(0x3FFF, 0), (0x4000, 2), (0x401E, 2), (0x401F, 1), (0x4020, 0)]);
+    all_stores(&TRIM, &[(0x0000, 2), (0x00FE, 2), (0x00FF, 1), (0x0100, 0), (0xFFFF, 0)]);
+    let one_byte = grants((0x0000, 0x00FF), (0x4000, 0x4000));
+    all_stores(&one_byte, &[(0x3FFF, 0), (0x4000, 1), (0x4001, 0)]);
+    let from_0000 = grants((0x4000, 0x401F), (0x0000, 0x00FF));
+    all_stores(&from_0000, &[(0x0000, 2), (0x00FF, 1), (0x0100, 0), (0xFFFF, 0)]);
+    let to_7fff = grants((0x0000, 0x00FF), (0x7FF0, 0x7FFF));
+    all_stores(&to_7fff, &[(0x7FEF, 0), (0x7FFE, 2), (0x7FFF, 1), (0x8000, 0)]);
+}
+
+/// A word with a byte in each of two grants lies wholly in neither.
+#[test]
+fn seam_of_two_grants() {
+    let (lower, upper) = ((0x0010, 0x00FF), (0x0100, 0x01FF));
+    for limits in [grants(lower, upper), grants(upper, lower)] {
+        all_stores(&limits, &[(0x000F, 0), (0x0010, 2), (0x00FE, 2), (0x00FF, 1)]);
+        all_stores(&limits, &[(0x0100, 2), (0x01FE, 2), (0x01FF, 1), (0x0200, 0)]);
+    }
+    let bytes = grants((0x0010, 0x0010), (0x0011, 0x0011));
+    all_stores(&bytes, &[(0x000F, 0), (0x0010, 1), (0x0011, 1), (0x0012, 0)]);
+}
+
+/// Low above high is none, whatever the values: apart from the other areas, in one of them, or around them.
+#[test]
+fn no_second_grant() {
+    for (low, high) in [(0xFFFF, 0x0000), (0x0005, 0x0004), (0x9000, 0x8FFF), (0x0340, 0x033F), (0x7FFF, 0x0000)] {
+        let limits = grants((0x0100, 0x01FF), (low, high));
+        all_stores(&limits, &[(high, 0), (low, 0), (low - 1, 0), (high + 1, 0)]);
+        all_stores(&limits, &[(0x00FF, 0), (0x0100, 2), (0x01FE, 2), (0x01FF, 1), (0x0200, 0)]);
+    }
+    let in_the_grant = grants((0x0100, 0x01FF), (0x0181, 0x0180));
+    all_stores(&in_the_grant, &[(0x017F, 2), (0x0180, 2), (0x0181, 2)]);
+}
+
+/// A second grant obeys the first one's rules, and meets neither that one nor the stack.
+#[test]
+fn rules_of_the_second_grant() {
+    let ret = image(&[&[0x81]]);
+    let verdict = |first, second| check(&ret, &grants(first, second), 1);
+    let above = [(0x4000, 0x8000), (0x7FFF, 0x8000), (0x8000, 0x8000), (0x8000, 0x9000), (0xFFFF, 0xFFFF)];
+    let at_stack = [(0x0280, 0x0300), (0x03FF, 0x0480), (0x0340, 0x0340), (0x0300, 0x03FF), (0x0280, 0x0480)];
+    let at_grant = [(0x0080, 0x0100), (0x01FF, 0x0280), (0x0180, 0x0180), (0x0100, 0x01FF), (0x0080, 0x0280)];
+    for second in [above, at_stack, at_grant].concat() {
+        assert_eq!(verdict((0x0100, 0x01FF), second), refused(1, 0), "{second:04X?}");
+    }
+    for second in [(0x0080, 0x00FF), (0x0200, 0x02FF), (0x0400, 0x0480), (0x0000, 0x0000), (0x7FFF, 0x7FFF), (0x4000, 0x7FFF)] {
+        assert_eq!(verdict((0x0100, 0x01FF), second), accepted(2, 1), "{second:04X?}");
+    }
+    // A second grant of zeros is not none.
+    assert_eq!(verdict((0x0000, 0x00FF), (0x0000, 0x0000)), refused(1, 0));
+    // The first grant and the stack obey their rules as before.
+    assert_eq!(verdict((0x0080, 0x0300), (0x4000, 0x401F)), refused(1, 0));
+    assert_eq!(verdict((0x0005, 0x0004), (0x4000, 0x401F)), refused(1, 0));
+}
+
+/// 1 comes after 17 and before 2, whatever area it is of.
+#[test]
+fn order_of_a_bad_second_grant() {
+    let bad = grants((0x0000, 0x00FF), (0x03FF, 0x0400));
+    assert_eq!(check(&[0x53, 0x4C], &bad, 1), refused(1, 0));
+    let file = image(&[&[0xC7, 0x03, 0xFF, 0x81]]);
+    let (mut memory, mut marks) = (vec![0xAA; MEMORY_BYTES], [BLANK; 4]);
+    let mut registers = BEGIN;
+    assert_eq!(gate_host::step(&file, &bad, &mut memory, &mut registers), Err(Refusal::Limits));
+    assert_eq!(gate_host::step(&file, &bad, &mut memory[..100], &mut registers), Err(Refusal::Memory));
+    assert_eq!(gate_host::run(&file, &bad, &mut memory, &mut registers, 9), Err(Refusal::Limits));
+    assert_eq!(registers, BEGIN);
+    assert_eq!(twin::step(&file, &bad, &mut memory, &mut registers), Err(Refusal::Limits));
+    assert_eq!(twin::run(&file, &bad, &mut memory, &mut registers, 9), Err(Refusal::Limits));
+    assert_eq!(registers, BEGIN);
+    assert_eq!(gate_host::start(&file, &bad, &mut marks, &mut memory[..100], &mut registers), refused(17, 0));
+    assert_eq!(gate_host::start(&file, &bad, &mut marks, &mut memory, &mut registers), refused(1, 0));
+    assert_eq!(registers, Registers::default());
+    assert!(marks == [BLANK; 4] && memory.iter().all(|&byte| byte == 0xAA));
+}
+
+/// Each kind of direct store may go to either grant, and to no other place.
+#[test]
+fn direct_stores_of_every_kind() {
+    let verdict = |limits: &Limits, code: &str| check(&assembled(code), limits, MARKS_ENOUGH);
+    let bits = ["72 1E 40 1F 81", "72 1F 40 1F 81", "90 1E 40 1F 81", "90 1F 40 1F 81"];
+    let bytes = ["C7 40 1F 81", "72 5C 40 1F 81", "35 05 40 1F 81", "55 00 00 40 1F 81"];
+    let words = ["CF 40 1E 81", "90 CF 40 1E 81"];
+    for code in bits.into_iter().chain(bytes).chain(words) {
+        assert_eq!(verdict(&TRIM, code), accepted(2, 2), "{code}");
+        assert_eq!(verdict(&LIMITS, code), refused(12, 0), "{code}");
+    }
+    assert_eq!(verdict(&TRIM, "88 32 40 1F 81"), accepted(3, 3));
+    assert_eq!(verdict(&LIMITS, "88 32 40 1F 81"), refused(12, 1));
+    let short = grants((0x4000, 0x401F), (0x0010, 0x001F));
+    for (inside, outside) in [("B7 1F 81", "B7 20 81"), ("3C 10 81", "3C 0F 81"), ("45 20 10 81", "45 10 20 81")] {
+        assert_eq!(verdict(&short, inside), accepted(2, 2), "{inside}");
+        assert_eq!(verdict(&short, outside), refused(12, 0), "{outside}");
+    }
 }
 
 #[test]

@@ -1,11 +1,12 @@
 //! The twin's steps against those that were recorded from a simulator: 32 for each of the 260 op-codes.
 
-use gate_host::{slu, twin, Limits, Registers, Step, MEMORY_BYTES};
+use gate_host::{slu, twin, Area, Limits, Registers, Step, MEMORY_BYTES};
 use std::fs;
 use std::path::Path;
 
 const RECORD: usize = 46;
-const LIMITS: Limits = Limits { grant_low: 0x0000, grant_high: 0x14FF, stack_low: 0x1600, stack_high: 0x17FF };
+const LIMITS: Limits =
+    Limits { grant: Area { low: 0x0000, high: 0x14FF }, stack: Area { low: 0x1600, high: 0x17FF }, second: Area::NONE };
 
 fn word(bytes: &[u8]) -> u16 {
     u16::from_be_bytes([bytes[0], bytes[1]])

@@ -1,4 +1,4 @@
--- What an instruction moves and stores where a routine stands: no trap stops it, and it writes to the grant and the routine's own stack bytes alone.
+-- What an instruction moves and stores where a routine stands: no trap stops it, and it writes to the grants and the routine's own stack bytes alone.
 use Prim.Native.Nat.{ℕ, _+_, _-_, _≤_, _<_}
 use mathlib.Core.Path.{_≡_, refl}
 use mathlib.Core.List.{List}
@@ -13,7 +13,7 @@ use Rattle.stm8.specs.declared.Effect.{Effect}
 use Rattle.image.specs.declared.Limits.{Limits}
 use Rattle.image.specs.Access.{Granted}
 use Rattle.image.specs.Rules.{LimitsRules}
-use Rattle.image.proofs.Granting.{granted-exactly}
+use Rattle.image.proofs.Granting.{granted-exactly, granted-off-stack}
 use Rattle.storage.specs.Storing.{moveTrap, storeTrap, storedAt, memoryAfter}
 use Rattle.execution.specs.Performing.{spAfter}
 use Rattle.machine.specs.Changes.{Among}
@@ -47,7 +47,7 @@ module _ (limits : Limits) (areas : LimitsRules limits) (total need sp d : ℕ) 
     unfolding moveTrap
     move-passes = under-pass _ _ 24 (omega arith) & under-pass _ _ 24 (omega arith)
 
-    -- what is stored lies in the grant or in the routine's own stack bytes
+    -- what is stored lies in a grant or in the routine's own stack bytes
     inside : (place : Place) → StoreRules limits d place → PushesOwn place (e .pushes) → (address : ℕ) →
         (Granted limits address → ⊥) → (limits .stack .high < address + total → address ≤ sp + d → ⊥) →
         Among address (storedAt sp (spAfter sp e) place) → ⊥
@@ -70,7 +70,7 @@ module _ (limits : Limits) (areas : LimitsRules limits) (total need sp d : ℕ) 
       agrees address low high =
           stored-other memory (storedAt sp (spAfter sp e) place) value address
           (inside place store pushes address
-          (λ grant. areas .apart address grant (record { above = omega arith; below = high })) (λ p q. omega arith))
+          (λ grant. granted-off-stack limits areas address grant (record { above = omega arith; below = high })) (λ p q. omega arith))
 
       pub unchanged : Unchanged limits total memory (memoryAfter memory (storedAt sp (spAfter sp e) place) value)
       unchanged =

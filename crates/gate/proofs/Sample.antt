@@ -1,7 +1,7 @@
--- The guarantee of one image, so that it speaks of something: two routines with a call, a loop, a store in the grant and one on the stack.
+-- The guarantee of one image, so that it speaks of something: two routines with a call, a loop, a store in each grant and one on the stack.
 --
 --     8000 PUSH A; LD ($01,SP),A; POP A; RET
---     8005 CALL $8000; LD $10,A; DEC A; JRNE $8005; RET
+--     8005 CALL $8000; LD $10,A; LD $4000,A; DEC A; JRNE $8005; RET
 use Prim.Native.Nat.{ℕ, zero, suc}
 use mathlib.Core.Path.{_≡_, refl}
 use mathlib.Core.Bool.{Bool, true, false, cond, false≢true}
@@ -19,7 +19,7 @@ use Rattle.numbers.proofs.Checking.{by-cond}
 use Rattle.stm8.specs.Effects.{relative, jumpTarget, callTarget}
 use Rattle.image.specs.Image as Image
 use Rattle.image.specs.Validation as Validation
-use Rattle.image.specs.Access.{granted}
+use Rattle.image.specs.Access.{wholly, granted}
 use Rattle.image.specs.declared.Limits.{Limits}
 use Rattle.code.specs.Set as Set
 use Rattle.code.specs.Code as Code
@@ -39,18 +39,23 @@ use Rattle.gate.proofs.Guarantee.{guarantee}
 
 abbrev pub sample : List ℕ
 sample =
-    0x53 ∷ 0x4C ∷ 0x55 ∷ 0x00 ∷ 0x01 ∷ 0x80 ∷ 0x00 ∷ 0x02 ∷ 0x00 ∷ 0x05 ∷ 0x00 ∷ 0x09 ∷
+    0x53 ∷ 0x4C ∷ 0x55 ∷ 0x00 ∷ 0x01 ∷ 0x80 ∷ 0x00 ∷ 0x02 ∷ 0x00 ∷ 0x05 ∷ 0x00 ∷ 0x0C ∷
     0x88 ∷ 0x6B ∷ 0x01 ∷ 0x84 ∷ 0x81 ∷
-    0xCD ∷ 0x80 ∷ 0x00 ∷ 0xB7 ∷ 0x10 ∷ 0x4A ∷ 0x26 ∷ 0xF8 ∷ 0x81 ∷ []
+    0xCD ∷ 0x80 ∷ 0x00 ∷ 0xB7 ∷ 0x10 ∷ 0xC7 ∷ 0x40 ∷ 0x00 ∷ 0x4A ∷ 0x26 ∷ 0xF5 ∷ 0x81 ∷ []
 
 abbrev pub limits : Limits
-limits = record { grant = record { low = 0x0000; high = 0x00FF }; stack = record { low = 0x03FB; high = 0x03FF } }
+limits =
+    record {
+      grant = record { low = 0x0000; high = 0x00FF };
+      stack = record { low = 0x03FB; high = 0x03FF };
+      second = record { low = 0x4000; high = 0x400F };
+    }
 
-sample-accepted : Check.checked sample limits (replicate 14 0) .0 ≡ Accepted 5 9
+sample-accepted : Check.checked sample limits (replicate 17 0) .0 ≡ Accepted 5 10
 unfolding Check.checked Folds.firstIn Folds.total Checks.first Checks.both Checks.under Checks.unless Checks.differ Lists.same Words.word
-    Words.wordAt relative jumpTarget callTarget granted Image.versionOf Image.baseOf Image.countOf Image.lengthsOf Image.lengthAt Image.codeAt
+    Words.wordAt relative jumpTarget callTarget wholly granted Image.versionOf Image.baseOf Image.countOf Image.lengthsOf Image.lengthAt Image.codeAt
     Image.codeOf Image.sizeOf Image.layoutOf Image.startOf Image.endOf Image.mainOf Validation.areaCheck Validation.apart
-    Validation.limitsCheck Validation.markCheck Validation.versionCheck Validation.lengthCheck Validation.lengthsCheck
+    Validation.secondCheck Validation.limitsCheck Validation.markCheck Validation.versionCheck Validation.lengthCheck Validation.lengthsCheck
     Validation.headerCheck Validation.layoutCheck Validation.refusal Validation.validated Set.decodedFor Code.decodedAt
     Depth.popped Depth.pushed Routine.jumpNumber
     Routine.depthNumber Routine.countFrom Measuring.callUse Measuring.greatestUse Cells.targetCell Cells.storeCell Cells.beginning
@@ -70,10 +75,10 @@ bytes-below (b ∷ rest) e zero = by-cond (ltb b 256) (λ t u. ltb-true b 256 t)
 bytes-below (b ∷ rest) e (suc k) = by-cond (ltb b 256) (λ t u. bytes-below rest u k) (λ t u. absurd (false≢true u)) e
 
 module _ (memory : List ℕ) (size : length memory ≡ 32768) (a x y cc : ℕ) where
-  pub sample-started : started sample limits (replicate 14 0) memory a x y cc .started .verdict ≡ Accepted 5 9
+  pub sample-started : started sample limits (replicate 17 0) memory a x y cc .started .verdict ≡ Accepted 5 10
   unfolding started
   sample-started = rw (eq-eqb (length memory) 32768 size, sample-accepted)
 
   pub sample-holds : (calls : List Request) → All (Allowed (record { image = sample; limits = limits })) calls →
-      All (Holds sample limits 5 memory) (history calls (pointStarted (started sample limits (replicate 14 0) memory a x y cc)))
-  sample-holds = guarantee sample (bytes-below sample refl) limits (replicate 14 0) memory a x y cc 5 9 sample-started
+      All (Holds sample limits 5 memory) (history calls (pointStarted (started sample limits (replicate 17 0) memory a x y cc)))
+  sample-holds = guarantee sample (bytes-below sample refl) limits (replicate 17 0) memory a x y cc 5 10 sample-started

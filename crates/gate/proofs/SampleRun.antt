@@ -1,4 +1,4 @@
--- The sample at work: from its start with A = 1, a run of up to 100 steps comes to its end in nine, by computation. Its call is in the book until the
+-- The sample at work: from its start with A = 1, a run of up to 100 steps comes to its end in ten, by computation. Its call is in the book until the
 -- return that it belongs to, and main's return finishes the run.
 use Prim.Native.Nat.{ℕ}
 use mathlib.Core.Path.{_≡_, refl}
@@ -19,7 +19,7 @@ use Rattle.byte_operations.specs.Unary as Unary
 use Rattle.stm8.specs.Effects.{relative}
 use Rattle.image.specs.Image as Image
 use Rattle.image.specs.Validation as Validation
-use Rattle.image.specs.Access.{granted}
+use Rattle.image.specs.Access.{wholly, granted}
 use Rattle.code.specs.Set as Set
 use Rattle.code.specs.Code as Code
 use Rattle.storage.specs.Reading as Reading
@@ -54,8 +54,9 @@ trace =
     stepTo 0x8004 (0x8008 ∷ []) ∷
     (steppedTo Made, 0x8008, some 0x8008, emptyBook) ∷
     stepTo 0x800A [] ∷
-    stepTo 0x800B [] ∷
     stepTo 0x800D [] ∷
+    stepTo 0x800E [] ∷
+    stepTo 0x8010 [] ∷
     (steppedTo Made, 0, some 0, record { addresses = []; returned = true }) ∷
     (ranTo Finished, 0, none, record { addresses = []; returned = true }) ∷
     []
@@ -69,14 +70,14 @@ seenFrom p = map seen (history (run (record { image = sample; limits = limits })
 runs-from : seenFrom (record { state = record { registers = begun sample limits 1 0 0 0; memory = cleared limits memory }; book = emptyBook }) ≡ trace
 unfolding xor Bits.bit Checks.first Checks.both Checks.under Checks.unless Checks.differ Folds.firstIn Folds.total Lists.same Words.word Words.high
     Words.low CC.withBit Flags.withNZ Sums.borrowOut Sums.difference Sums.differenceOverflow Sums.afterDecrement Accumulator.resultNZ Unary.modifyResult
-    relative granted Set.decodedFor Code.decodedAt Image.versionOf Image.baseOf Image.countOf Image.lengthsOf Image.lengthAt Image.codeAt Image.codeOf Image.sizeOf
-    Image.startOf Image.endOf Image.mainOf Words.wordAt Validation.areaCheck Validation.apart Validation.limitsCheck Validation.markCheck
+    relative wholly granted Set.decodedFor Code.decodedAt Image.versionOf Image.baseOf Image.countOf Image.lengthsOf Image.lengthAt Image.codeAt Image.codeOf Image.sizeOf
+    Image.startOf Image.endOf Image.mainOf Words.wordAt Validation.areaCheck Validation.apart Validation.secondCheck Validation.limitsCheck Validation.markCheck
     Validation.versionCheck Validation.lengthCheck Validation.lengthsCheck Validation.headerCheck Validation.layoutCheck Validation.refusal Reading.readByte
     Reading.readWord Computing.computed Storing.spTrap Step.pcTrap Storing.moveTrap Storing.storeTrap Storing.callTrap Performing.effectTrap Performing.pcAfter
     Storing.storedAt Storing.memoryAfter Performing.made Performing.performed Step.decodedStep Step.stepValid Step.stepRefusal Step.stepped Run.noStepsLeft Run.ran fedTo
 runs-from = refl
 
-pub sample-runs : seenFrom (pointStarted (started sample limits (replicate 14 0) memory 1 0 0 0)) ≡ trace
+pub sample-runs : seenFrom (pointStarted (started sample limits (replicate 17 0) memory 1 0 0 0)) ≡ trace
 sample-runs =
-    let s = accepted-start sample limits (replicate 14 0) memory 1 0 0 0 5 9 (sample-started memory (length-replicate {A = ℕ} 32768 0xFE) 1 0 0 0) in
+    let s = accepted-start sample limits (replicate 17 0) memory 1 0 0 0 5 10 (sample-started memory (length-replicate {A = ℕ} 32768 0xFE) 1 0 0 0) in
     rw (s .registers, s .cleared-memory) runs-from

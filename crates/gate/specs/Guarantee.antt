@@ -51,7 +51,7 @@ pub record InTop (stack : Area) (n address : ℕ) : Type 0 where
   pub above : stack .high < address + n
   pub below : address ≤ stack .high
 
--- outside the grant and the top n bytes of the stack area every byte is what it was before
+-- outside both grants and the top n bytes of the stack area every byte is what it was before
 pub record Unchanged (limits : Limits) (n : ℕ) (before after : List ℕ) : Type 0 where
   pub size : length after ≡ length before
   pub same : (address : ℕ) → (Granted limits address → ⊥) → (InTop (limits .stack) n address → ⊥) →
@@ -68,7 +68,7 @@ pub record Holds (image : List ℕ) (limits : Limits) (need : ℕ) (before : Lis
   pub only-then : m .point .book .returned ≡ true → m .point .state .registers .pc ≡ 0
   -- Each return went to the instruction after the call it belongs to; main's return finished the run.
   pub returned : MeetsOwed (m .owed) (m .point .state .registers .pc)
-  -- Outside its grant and the top bytes of its stack area, as many as the reported need, every byte of memory is what it was before the start.
+  -- Outside its grants and the top bytes of its stack area, as many as the reported need, every byte of memory is what it was before the start.
   pub unchanged : Unchanged limits need before (m .point .state .memory)
   -- It never had more stack bytes in use than that need.
   pub in-stack : m .point .state .registers .sp ≤ limits .stack .high

@@ -1,7 +1,8 @@
 -- What stands in the cells of a C caller's arrays.
-use Prim.Native.Nat.{ℕ, _%_}
+use Prim.Native.Nat.{ℕ, _+_, _%_}
 use mathlib.Core.List.{List, [], _∷_, _++_}
 use lib.ListN.{length, getD, drop, replicate}
+use Rattle.image.specs.declared.Area.{Area}
 use Rattle.image.specs.declared.Limits.{Limits}
 use Rattle.rules.specs.Outcome.{valuesOf}
 use Rattle.rules.specs.declared.Verdict.{Verdict}
@@ -14,10 +15,12 @@ use Rattle.stm8.specs.declared.Decoded.{Decoded}
 use Rattle.stm8.specs.declared.Decoded.the-variants.{Found, Outside, Truncated}
 use Rattle.disassembly.specs.Text.{text}
 
--- the four addresses of limits
-abbrev pub limitsBy : ℕ → ℕ → ℕ → ℕ → Limits
-limitsBy grantLow grantHigh stackLow stackHigh =
-    record { grant = record { low = grantLow; high = grantHigh }; stack = record { low = stackLow; high = stackHigh } }
+-- limits: low and high of the grant, of the stack and of the second grant
+abbrev pub areaIn : List ℕ → ℕ → Area
+areaIn cells at = record { low = getD cells at 0; high = getD cells (at + 1) 0 }
+
+abbrev pub limitsIn : List ℕ → Limits
+limitsIn cells = record { grant = areaIn cells 0; stack = areaIn cells 2; second = areaIn cells 4 }
 
 -- a report: offset, need and count
 abbrev pub reportCells : Verdict → List ℕ

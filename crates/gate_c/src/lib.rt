@@ -6,7 +6,7 @@ ghost use Rattle.machine.specs.Step.{stepped};
 ghost use Rattle.machine.specs.Run.{ran};
 ghost use Rattle.stm8.specs.Decoding.{decoded, decodingNumber};
 ghost use mathlib.Core.List.{[], _∷_};
-ghost use Rattle.gate_c.specs.Cells.{limitsBy, registersIn, registerCells, reportCells};
+ghost use Rattle.gate_c.specs.Cells.{limitsIn, registersIn, registerCells, reportCells};
 ghost use Rattle.gate_c.specs.Cells.{decodedLength, textCells, startedBy, startedCells, steppedCells, ranCells};
 use decoder::decode;
 use decoder::decoding_number;
@@ -24,17 +24,21 @@ use gate::step_number;
 use rules::verdict_number;
 use stm8::Decoded;
 
-fn limits(grant_low: u16, grant_high: u16, stack_low: u16, stack_high: u16) -> Limits
-    ensures { λ r. ⌜ r ≡ limitsBy «grant_low» «grant_high» «stack_low» «stack_high» ⌝ }
+fn limits_in(cells: &[u16; 6]) -> Limits
+    ensures { λ r. ⌜ r ≡ limitsIn (now (cells .entry)) ⌝ }
 {
     Limits {
         grant: Area {
-            low: grant_low,
-            high: grant_high,
+            low: cells[0],
+            high: cells[1],
         },
         stack: Area {
-            low: stack_low,
-            high: stack_high,
+            low: cells[2],
+            high: cells[3],
+        },
+        second: Area {
+            low: cells[4],
+            high: cells[5],
         },
     }
 }
@@ -81,25 +85,18 @@ fn register_cells(r: Registers) -> [u32; 6]
 #[no_mangle]
 pub extern "C" fn gate_check(
     image: &[u8],
-    grant_low: u16,
-    grant_high: u16,
-    stack_low: u16,
-    stack_high: u16,
+    limits: &[u16; 6],
     marks: &mut [u16],
     report: &mut [u16; 3],
 ) -> u8
     ensures { λ r. ⌜ r ≡
-        valuesOf (checked (now (image .entry)) (limitsBy «grant_low» «grant_high» «stack_low» «stack_high») (now (marks .entry)) .0) .number ⌝ }
+        valuesOf (checked (now (image .entry)) (limitsIn (now (limits .entry))) (now (marks .entry)) .0) .number ⌝ }
     ensures { λ _. ⌜ now (report .exit) ≡
-        reportCells (checked (now (image .entry)) (limitsBy «grant_low» «grant_high» «stack_low» «stack_high») (now (marks .entry)) .0) ⌝ }
+        reportCells (checked (now (image .entry)) (limitsIn (now (limits .entry))) (now (marks .entry)) .0) ⌝ }
     ensures { λ _. ⌜ now (marks .exit) ≡
-        checked (now (image .entry)) (limitsBy «grant_low» «grant_high» «stack_low» «stack_high») (now (marks .entry)) .1 ⌝ }
+        checked (now (image .entry)) (limitsIn (now (limits .entry))) (now (marks .entry)) .1 ⌝ }
 {
-    let verdict = check(
-        image,
-        limits(grant_low, grant_high, stack_low, stack_high),
-        marks,
-    );
+    let verdict = check(image, limits_in(limits), marks);
     *report = offset_need_count(verdict);
     verdict_number(verdict)
 }
@@ -108,27 +105,24 @@ pub extern "C" fn gate_check(
 #[no_mangle]
 pub extern "C" fn gate_start(
     image: &[u8],
-    grant_low: u16,
-    grant_high: u16,
-    stack_low: u16,
-    stack_high: u16,
+    limits: &[u16; 6],
     marks: &mut [u16],
     memory: &mut [u8],
     registers: &mut [u32; 6],
     report: &mut [u16; 3],
 ) -> u8
     ensures { λ r. ⌜
-        startedCells (now (image .entry)) (limitsBy «grant_low» «grant_high» «stack_low» «stack_high»)
+        startedCells (now (image .entry)) (limitsIn (now (limits .entry)))
         (now (marks .entry)) (now (memory .entry)) (now (registers .entry)) ≡
         record { number = r; report = now (report .exit); registers = now (registers .exit); marks = now (marks .exit); memory = now (memory .exit) } ⌝ }
     ensures { λ _. ⌜ registersIn (now (registers .exit)) ≡
-        startedBy (now (image .entry)) (limitsBy «grant_low» «grant_high» «stack_low» «stack_high»)
+        startedBy (now (image .entry)) (limitsIn (now (limits .entry)))
         (now (marks .entry)) (now (memory .entry)) (registersIn (now (registers .entry))) .started .registers ⌝ }
 {
     let given = registers_in(registers);
     let s = start(
         image,
-        limits(grant_low, grant_high, stack_low, stack_high),
+        limits_in(limits),
         marks,
         memory,
         given.a,
@@ -146,26 +140,18 @@ pub extern "C" fn gate_start(
 #[no_mangle]
 pub extern "C" fn gate_step(
     image: &[u8],
-    grant_low: u16,
-    grant_high: u16,
-    stack_low: u16,
-    stack_high: u16,
+    limits: &[u16; 6],
     memory: &mut [u8],
     registers: &mut [u32; 6],
 ) -> u8
     ensures { λ r. ⌜
-        steppedCells (now (image .entry)) (limitsBy «grant_low» «grant_high» «stack_low» «stack_high») (now (registers .entry)) (now (memory .entry)) ≡
+        steppedCells (now (image .entry)) (limitsIn (now (limits .entry))) (now (registers .entry)) (now (memory .entry)) ≡
         record { number = r; registers = now (registers .exit); memory = now (memory .exit) } ⌝ }
     ensures { λ _. ⌜ registersIn (now (registers .exit)) ≡
-        stepped (now (image .entry)) (limitsBy «grant_low» «grant_high» «stack_low» «stack_high»)
+        stepped (now (image .entry)) (limitsIn (now (limits .entry)))
         (registersIn (now (registers .entry))) (now (memory .entry)) .0 .registers ⌝ }
 {
-    let s = step(
-        image,
-        limits(grant_low, grant_high, stack_low, stack_high),
-        registers_in(registers),
-        memory,
-    );
+    let s = step(image, limits_in(limits), registers_in(registers), memory);
     let answer = s.answer;
     *registers = register_cells(s.registers);
     step_number(answer)
@@ -175,25 +161,22 @@ pub extern "C" fn gate_step(
 #[no_mangle]
 pub extern "C" fn gate_run(
     image: &[u8],
-    grant_low: u16,
-    grant_high: u16,
-    stack_low: u16,
-    stack_high: u16,
+    limits: &[u16; 6],
     memory: &mut [u8],
     registers: &mut [u32; 6],
     budget: u32,
     steps: &mut [u32; 1],
 ) -> u8
     ensures { λ r. ⌜
-        ranCells budget (now (image .entry)) (limitsBy «grant_low» «grant_high» «stack_low» «stack_high») (now (registers .entry)) (now (memory .entry)) ≡
+        ranCells budget (now (image .entry)) (limitsIn (now (limits .entry))) (now (registers .entry)) (now (memory .entry)) ≡
         record { number = r; registers = now (registers .exit); steps = now (steps .exit); memory = now (memory .exit) } ⌝ }
     ensures { λ _. ⌜ registersIn (now (registers .exit)) ≡
-        ran budget (now (image .entry)) (limitsBy «grant_low» «grant_high» «stack_low» «stack_high»)
+        ran budget (now (image .entry)) (limitsIn (now (limits .entry)))
         (registersIn (now (registers .entry))) (now (memory .entry)) .0 .registers ⌝ }
 {
     let ran = run(
         image,
-        limits(grant_low, grant_high, stack_low, stack_high),
+        limits_in(limits),
         registers_in(registers),
         memory,
         budget,

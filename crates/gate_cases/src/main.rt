@@ -1,7 +1,7 @@
-// Runs the cases of standard input, a line each: what the case is about, a colon, and in hexadecimal the limits (8 bytes) and the number of
+// Runs the cases of standard input, a line each: what the case is about, a colon, and in hexadecimal the limits (12 bytes) and the number of
 // marks (1); then 00 and the image for a check, or 01, the size of memory (2), A, X, Y and CC (6) and the image for a start. Every mark is 9
 // before. Prints what the case is about, the verdict and the marks after it. A start has a line more: the registers, the top three stack bytes and
-// two digests, of all memory and of the bytes outside the grant and the top `need` stack bytes. Where it is accepted, two lines tell the steps made
+// two digests, of all memory and of the bytes outside the grants and the top `need` stack bytes. Where it is accepted, two lines tell the steps made
 // and the same after a run to the end, in one piece and, on a memory like the first, in pieces of 1, 2, 3 and 7 steps with a single step
 // after each. No contract can speak of what is printed.
 ghost use mathlib.Core.Path.{_≡_};
@@ -108,10 +108,13 @@ fn within(area: Area, at: usize) -> bool
 }
 
 // A byte for a digest, 0 where it lies within an area that does not count.
-fn counted(byte: u8, at: usize, grant: Area, used: Area) -> u32
+fn counted(byte: u8, at: usize, grant: Area, second: Area, used: Area) -> u32
     ensures { λ r. ⌜ r < 256 ⌝ }
 {
     if within(grant, at) {
+        return 0;
+    }
+    if within(second, at) {
         return 0;
     }
     if within(used, at) {
@@ -120,15 +123,15 @@ fn counted(byte: u8, at: usize, grant: Area, used: Area) -> u32
     byte as u32
 }
 
-// The Adler-32 sum of memory, with 0 for the bytes within two areas.
-fn digest(memory: &[u8], grant: Area, used: Area) -> u32
+// The Adler-32 sum of memory, with 0 for the bytes within three areas.
+fn digest(memory: &[u8], grant: Area, second: Area, used: Area) -> u32
     ensures { λ r. ⌜ (r / 65536 < 65521) × (r % 65536 < 65521) ⌝ }
 {
     let mut a: u32 = 1;
     let mut b: u32 = 0;
     let mut at = 0;
     while at < memory.len() {
-        a = (a + counted(memory[at], at, grant, used)) % 65521;
+        a = (a + counted(memory[at], at, grant, second, used)) % 65521;
         b = (b + a) % 65521;
         at += 1;
     }
@@ -146,18 +149,17 @@ fn used_bytes(stack: Area, need: u16) -> Area
     }
 }
 
-// Registers, the top of the stack, and the digests of all memory and of what lies outside the grant and the stack bytes used.
+// Registers, the top of the stack, and the digests of all memory and of what lies outside the grants and the stack bytes used.
 fn print_state(registers: Registers, memory: &[u8], limits: Limits, need: u16) {
-    let grant = limits.grant;
     let stack = limits.stack;
     let nowhere = Area { low: 1, high: 0 };
     print(b": ");
     print(&registers_text(registers));
     print_top(memory, stack.high);
-    print_digest(b", memory ", digest(memory, nowhere, nowhere));
+    print_digest(b", memory ", digest(memory, nowhere, nowhere, nowhere));
     print_digest(
         b", outside ",
-        digest(memory, grant, used_bytes(stack, need)),
+        digest(memory, limits.grant, limits.second, used_bytes(stack, need)),
     );
     print(b"\n");
 }
@@ -247,10 +249,10 @@ fn start(case: &[u8], image: &[u8], marks: &mut [u16], memory: &mut [u8]) -> Sta
         limits_of(case),
         marks,
         memory,
-        byte_at(case, 12),
-        word_at(case, 13),
-        word_at(case, 15),
-        byte_at(case, 17),
+        byte_at(case, 16),
+        word_at(case, 17),
+        word_at(case, 19),
+        byte_at(case, 21),
     )
 }
 
@@ -280,23 +282,23 @@ fn check_case(image: &[u8], limits: Limits, marks: &mut [u16]) {
 
 // The lines of a case, after what it is about. A case that is cut short has none.
 fn case_lines(case: &[u8], marks: &mut [u16]) {
-    if case.len() < 10 {
+    if case.len() < 14 {
         return;
     }
-    if case[9] == 0 {
-        check_case(&case[10..], limits_of(case), marks);
+    if case[13] == 0 {
+        check_case(&case[14..], limits_of(case), marks);
         return;
     }
-    if case.len() < 18 {
+    if case.len() < 22 {
         return;
     }
     let mut memory = [0u8; 32769];
     let mut other = [0u8; 32769];
-    let size = word_at(case, 10) as usize;
+    let size = word_at(case, 14) as usize;
     if size <= 32769 {
         start_case(
             case,
-            &case[18..],
+            &case[22..],
             marks,
             &mut memory[..size],
             &mut other[..size],
@@ -308,7 +310,7 @@ fn case(text: &[u8]) {
     let mut bytes = [0u8; 128];
     let mut marks = [9u16; 256];
     let n = parse(text, &mut bytes);
-    let cells = byte_at(&bytes, 8) as usize;
+    let cells = byte_at(&bytes, 12) as usize;
     case_lines(&bytes[..n], &mut marks[..cells]);
 }
 

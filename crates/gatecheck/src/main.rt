@@ -5,10 +5,10 @@ use disassembly::Written;
 use libc::STDIN_FILENO;
 use libc::STDOUT_FILENO;
 
-// One byte more than the largest input that is not refused: 8 bytes of limits, a header of 8, 32 lengths of 2 and 4,096 code bytes. A longer
-// input is refused with 1, 2 or 3, which its first 13 bytes decide, or else with 4, since the file does not end with the code: its first 4,177
+// One byte more than the largest input that is not refused: 12 bytes of limits, a header of 8, 32 lengths of 2 and 4,096 code bytes. A longer
+// input is refused with 1, 2 or 3, which its first 17 bytes decide, or else with 4, since the file does not end with the code: its first 4,181
 // bytes print the same (`long-input` in the crate `listing`).
-const INPUT: usize = 4177;
+const INPUT: usize = 4181;
 
 // One for each code byte of any image, so that 5 is never given.
 const MARKS: usize = 4096;

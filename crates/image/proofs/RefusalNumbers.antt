@@ -2,11 +2,13 @@
 use Prim.Native.Nat.{ℕ}
 use mathlib.Core.Path.{refl}
 use mathlib.Core.List.{List, [], _∷_, map}
+use lib.Dec.{ltb}
 use Rattle.numbers.specs.Folds.{firstIn}
+use Rattle.numbers.proofs.Checking.{by-test}
 use Rattle.numbers.proofs.Numbering.{Numbered, pass, Listed, _then_, under-numbered, unless-numbered, differ-numbered}
 use Rattle.image.specs.declared.Area.{Area}
 use Rattle.image.specs.declared.Limits.{Limits}
-use Rattle.image.specs.Validation.{areaCheck, limitsCheck, markCheck, versionCheck, lengthCheck, lengthsCheck, headerCheck, layoutCheck, refusal}
+use Rattle.image.specs.Validation.{areaCheck, secondCheck, limitsCheck, markCheck, versionCheck, lengthCheck, lengthsCheck, headerCheck, layoutCheck, refusal}
 
 abbrev pub Validating : ℕ → Type 0
 Validating number = Numbered 1 4 number
@@ -16,11 +18,17 @@ unfolding areaCheck firstIn
 area-numbered area =
     under-numbered 1 refl _ _ then under-numbered 1 refl _ _ then under-numbered 1 refl _ _ then pass
 
+second-numbered : (limits : Limits) → Validating (secondCheck limits)
+unfolding secondCheck firstIn
+second-numbered limits =
+    by-test Validating (ltb (limits .second .high) (limits .second .low)) (λ none. pass)
+    (λ present. area-numbered (limits .second) then unless-numbered 1 refl _ then unless-numbered 1 refl _ then pass)
+
 limits-numbered : (limits : Limits) → Validating (limitsCheck limits)
 unfolding limitsCheck firstIn
 limits-numbered limits =
     area-numbered (limits .grant) then area-numbered (limits .stack) then under-numbered 1 refl _ _ then
-    unless-numbered 1 refl _ then pass
+    unless-numbered 1 refl _ then second-numbered limits then pass
 
 mark-numbered : (image : List ℕ) → Validating (markCheck image)
 unfolding markCheck firstIn

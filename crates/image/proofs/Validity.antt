@@ -7,7 +7,7 @@ use mathlib.Core.List.{List}
 use native.Mathlib.Omega.{arith}
 use lib.Dec.{eqb, ltb}
 use lib.ListN.{length, take}
-use borrow.Author.Tests.{eqb-true, eqb-false, eq-eqb, ne-eqb, ltb-true, ltb-false, lt-ltb}
+use borrow.Author.Tests.{eqb-true, eqb-false, eq-eqb, ne-eqb, ltb-true, ltb-false, lt-ltb, le-ltb}
 use Rattle.numbers.specs.Ascii.{ascii}
 use Rattle.numbers.specs.Checks.{first, differ}
 use Rattle.numbers.specs.Folds.{firstIn}
@@ -15,8 +15,8 @@ use Rattle.numbers.proofs.Checking.{by-cond, by-test, first-zero, under-zero, u
 use Rattle.numbers.proofs.Folding.{passed, passed-at, pass-at, _&_}
 use Rattle.numbers.proofs.Comparing.{same-refl, same-true}
 use Rattle.image.specs.Image.{baseOf, countOf, lengthsOf, lengthAt, codeAt, codeOf, sizeOf, layoutOf}
-use Rattle.image.specs.Validation.{areaCheck, apart, limitsCheck, markCheck, versionCheck, lengthCheck, lengthsCheck, headerCheck, layoutCheck, refusal, answer, validated, validationNumber}
-use Rattle.image.specs.Rules.{Apart, AreaRules, LimitsRules, ImageRules}
+use Rattle.image.specs.Validation.{areaCheck, apart, secondCheck, limitsCheck, markCheck, versionCheck, lengthCheck, lengthsCheck, headerCheck, layoutCheck, refusal, answer, validated, validationNumber}
+use Rattle.image.specs.Rules.{Apart, AreaRules, Present, SecondRules, LimitsRules, ImageRules}
 use Rattle.image.specs.declared.Area.{Area}
 use Rattle.image.specs.declared.Limits.{Limits}
 use Rattle.image.specs.declared.Layout.{Layout}
@@ -84,6 +84,27 @@ module _ (a b : Area) where
     apart-exactly = (apart-rule, apart-pass)
 
 module _ (limits : Limits) where
+  second-rules : secondCheck limits ≡ 0 → Present (limits .second) → SecondRules limits
+  unfolding secondCheck
+  second-rules e present =
+      let p = passed _ (rw (le-ltb _ _ present) at e) in
+      record {
+        area = area-rules (limits .second) (p .0);
+        offGrant = apart-rule (limits .grant) (limits .second) (unless-zero _ 0 (p .1 .0));
+        offStack = apart-rule (limits .stack) (limits .second) (unless-zero _ 0 (p .1 .1 .0));
+      }
+
+  second-pass : LimitsRules limits → secondCheck limits ≡ 0
+  unfolding secondCheck firstIn
+  second-pass h =
+      by-test (λ n. n ≡ 0) (ltb (limits .second .high) (limits .second .low)) (λ none. refl)
+      (λ t.
+      let present = ltb-false (limits .second .high) (limits .second .low) t in
+      let s = h .second present in
+      area-pass (limits .second) (s .area) &
+      rw (apart-pass (limits .grant) (limits .second) (h .grant .ordered) present (s .offGrant)) (unless-pass 1) &
+      rw (apart-pass (limits .stack) (limits .second) (h .stack .ordered) present (s .offStack)) (unless-pass 1) & refl)
+
   limits-rules : limitsCheck limits ≡ 0 → LimitsRules limits
   unfolding limitsCheck
   limits-rules e =
@@ -93,16 +114,15 @@ module _ (limits : Limits) where
         stack = area-rules (limits .stack) (p .1 .0);
         stackLow = under-zero _ _ 0 (p .1 .1 .0);
         apart = apart-rule (limits .grant) (limits .stack) (unless-zero _ 0 (p .1 .1 .1 .0));
+        second = second-rules (p .1 .1 .1 .1 .0);
       }
-
-  pub limits-ends : LimitsRules limits → (limits .grant .high < limits .stack .low) ⊎ (limits .stack .high < limits .grant .low)
-  limits-ends h = apart-ends (limits .grant) (limits .stack) (h .grant .ordered) (h .stack .ordered) (h .apart)
 
   limits-pass : LimitsRules limits → limitsCheck limits ≡ 0
   unfolding limitsCheck firstIn
   limits-pass h =
       area-pass (limits .grant) (h .grant) & area-pass (limits .stack) (h .stack) & under-pass _ _ 1 (h .stackLow) &
-      rw (apart-pass (limits .grant) (limits .stack) (h .grant .ordered) (h .stack .ordered) (h .apart)) (unless-pass 1) & refl
+      rw (apart-pass (limits .grant) (limits .stack) (h .grant .ordered) (h .stack .ordered) (h .apart)) (unless-pass 1) &
+      second-pass h & refl
 
 module _ (image : List ℕ) where
   mark-rule : markCheck image ≡ 0 → take 3 image ≡ ascii "SLU"

@@ -53,9 +53,9 @@ endOf image k = startOf image k + lengthAt image k
 unfoldable pub mainOf : List ℕ → ℕ
 mainOf image = countOf image - 1
 
--- Limits: grant low and high, stack low and high, 16 bits each, ends included.
+-- Limits: grant low and high, stack low and high, second grant low and high, 16 bits each, ends included.
 abbrev pub areaAt : List ℕ → ℕ → Area
 areaAt bytes at = record { low = wordAt bytes at; high = wordAt bytes (at + 2) }
 
 unfoldable pub limitsOf : List ℕ → Limits
-limitsOf bytes = record { grant = areaAt bytes 0; stack = areaAt bytes 4 }
+limitsOf bytes = record { grant = areaAt bytes 0; stack = areaAt bytes 4; second = areaAt bytes 8 }

@@ -1,4 +1,4 @@
--- The rules of limits and images, as document 01 states them.
+-- The rules of limits and images, as document 01 and W-205 state them.
 use Prim.Native.Nat.{ℕ, _+_, _<_, _≤_}
 use mathlib.Core.Path.{_≡_}
 use mathlib.Core.List.{List}
@@ -23,12 +23,22 @@ pub record AreaRules (area : Area) : Type 0 where
   pub low : area .low ≤ 0x7FFF
   pub high : area .high ≤ 0x7FFF
 
+-- a second grant is present where its low is not above its high; then it obeys the grant's rules and meets neither it nor the stack
+abbrev pub Present : Area → Type 0
+Present second = second .low ≤ second .high
+
+pub record SecondRules (limits : Limits) : Type 0 where
+  pub area : AreaRules (limits .second)
+  pub offGrant : Apart (limits .grant) (limits .second)
+  pub offStack : Apart (limits .stack) (limits .second)
+
 -- stack low is at least 1, and the areas don't meet
 pub record LimitsRules (limits : Limits) : Type 0 where
   pub grant : AreaRules (limits .grant)
   pub stack : AreaRules (limits .stack)
   pub stackLow : 1 ≤ limits .stack .low
   pub apart : Apart (limits .grant) (limits .stack)
+  pub second : Present (limits .second) → SecondRules limits
 
 -- the three letters SLU, then version 0001; count is 1 to 32, each length at least 1, code at most 4,096 bytes, base at least 8000,
 -- base plus code at most 10000; the file ends with the code

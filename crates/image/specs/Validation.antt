@@ -28,7 +28,17 @@ areaCheck area =
 unfoldable pub apart : Area → Area → Bool
 apart a b = cond (ltb (a .high) (b .low)) true (ltb (b .high) (a .low))
 
--- Of both areas: stack low is at least 1, and they don't meet.
+-- Of a second grant, which is none where its low is above its high: the grant's rules, and it meets neither the grant nor the stack.
+unfoldable pub secondCheck : Limits → ℕ
+secondCheck limits =
+    cond (ltb (limits .second .high) (limits .second .low)) 0
+    (firstIn
+    (areaCheck (limits .second) ∷
+    unless (apart (limits .grant) (limits .second)) 1 ∷
+    unless (apart (limits .stack) (limits .second)) 1 ∷
+    []))
+
+-- Of all: stack low is at least 1, and they don't meet.
 unfoldable pub limitsCheck : Limits → ℕ
 limitsCheck limits =
     firstIn
@@ -36,6 +46,7 @@ limitsCheck limits =
     areaCheck (limits .stack) ∷
     under (limits .stack .low) 1 1 ∷
     unless (apart (limits .grant) (limits .stack)) 1 ∷
+    secondCheck limits ∷
     [])
 
 -- 2, under 8 bytes, or not SLU.

@@ -15,8 +15,9 @@ pub use lengths::begin_at;
 ghost use mathlib.Core.Path.{_≡_};
 ghost use Rattle.image.specs.Image.{lengthsOf};
 ghost use Rattle.image.specs.Lengths.{afterAll, Begins};
-ghost use Rattle.image.specs.Validation.{answer as answerOf, validated, validationNumber};
+ghost use Rattle.image.specs.Validation.{answer as answerOf, limitsCheck, validated, validationNumber};
 ghost use Rattle.image.specs.declared.Layout.{Layout};
+ghost use Rattle.image.specs.declared.Limits.{Limits};
 ghost use Rattle.image.specs.declared.Validated.the-variants.{Valid};
 use numbers::checks::differ;
 use numbers::checks::first;
@@ -28,10 +29,11 @@ pub struct Area {
     pub high: u16,
 }
 
-// Where a gate routine may store directly, and its stack.
+// Where a gate routine may store directly, and its stack. A second grant whose low is above its high is none.
 pub struct Limits {
     pub grant: Area,
     pub stack: Area,
+    pub second: Area,
 }
 
 // The base address, the number of routines, the index of the first code byte in the image, and the number of code bytes.
@@ -64,12 +66,11 @@ fn answer(refusal: u8, layout: Layout) -> Validated
     }
 }
 
-// The refusal of the first rule that is broken, in document 01's order, or the layout, by the state after the length list.
-fn judge(image: &[u8], limits: Limits, lengths: LengthState) -> Validated
+// The refusal of the first rule that is broken, in document 01's order, or the layout, by the limits' own refusal and the state after the length list.
+fn judge(image: &[u8], limits_refusal: u8, lengths: LengthState) -> Validated
     requires { ⌜ lengths ≡ afterAll (lengthsOf (now image)) ⌝ }
-    ensures { λ r. ⌜ r ≡ validated (now (image .entry)) limits ⌝ }
+    ensures { λ r. ⌜ ((limits : Limits) → «limits_refusal» ≡ limitsCheck limits → r ≡ validated (now (image .entry)) limits) ⌝ }
 {
-    let limits_refusal = areas::limits_check(limits);
     let mark_refusal = header::mark_check(image);
     let version_refusal = differ(word_at(image, 3) as usize, 1, 3);
     let checked = header::layout_check(image, lengths);
@@ -77,23 +78,31 @@ fn judge(image: &[u8], limits: Limits, lengths: LengthState) -> Validated
     answer(first(refusal, checked.refusal), checked.layout)
 }
 
+// What `measure` gives, by the limits' refusal: that number goes on in a register, where limits would go through memory.
+fn measure_after(image: &[u8], limits_refusal: u8) -> Measured
+    ensures { λ r. ⌜ ((limits : Limits) → «limits_refusal» ≡ limitsCheck limits → (r .validated ≡ validated (now (image .entry)) limits) ×
+        ((layout : Layout) → r .validated ≡ Valid layout → Begins (now (image .entry)) (r .begins) (layout .count))) ⌝ }
+{
+    let read = header::read_lengths(image);
+    let lengths = read.state;
+    let begins = read.begins;
+    let validated = judge(image, limits_refusal, lengths);
+    Measured { validated, begins }
+}
+
 // The refusal or the layout of an image under limits, and where the routines of a valid one begin.
 pub fn measure(image: &[u8], limits: Limits) -> Measured
     ensures { λ r. ⌜ r .validated ≡ validated (now (image .entry)) limits ⌝ }
     ensures { λ r. ⌜ ((layout : Layout) → r .validated ≡ Valid layout → Begins (now (image .entry)) (r .begins) (layout .count)) ⌝ }
 {
-    let read = header::read_lengths(image);
-    let lengths = read.state;
-    let begins = read.begins;
-    let validated = judge(image, limits, lengths);
-    Measured { validated, begins }
+    measure_after(image, areas::limits_check(limits))
 }
 
 // The refusal or the layout alone.
 pub fn validate(image: &[u8], limits: Limits) -> Validated
     ensures { λ r. ⌜ r ≡ validated (now (image .entry)) limits ⌝ }
 {
-    let measured = measure(image, limits);
+    let measured = measure_after(image, areas::limits_check(limits));
     measured.validated
 }
 

@@ -2,48 +2,118 @@
 // refusal's number, 0 where nothing is refused.
 ghost use Prim.Native.Nat.{_+_, _≤_};
 ghost use lib.ListN.{length};
+ghost use mathlib.Core.Path.{_≡_};
+use image::Area;
+use image::Limits;
+use image::limits_of;
+use image::validate;
+use image::validation_number;
 use libc::STDOUT_FILENO;
 
-// grant 0000-00FF, stack 0300-03FF
-const LIMITS: [u8; 8] = [0x00, 0x00, 0x00, 0xFF, 0x03, 0x00, 0x03, 0xFF];
+// grant 0000-00FF, stack 0300-03FF, and a second grant
+fn usual_limits(low: u16, high: u16) -> Limits
+    ensures { λ r. ⌜ r .second ≡ record { low = low; high = high } ⌝ }
+{
+    Limits {
+        grant: Area {
+            low: 0x0000,
+            high: 0x00FF,
+        },
+        stack: Area {
+            low: 0x0300,
+            high: 0x03FF,
+        },
+        second: Area { low, high },
+    }
+}
 
 // One case: an image of a header and of that many code bytes, all 00.
-fn case(label: &[u8], limits: &[u8], header: &[u8], code: usize)
+fn case(label: &[u8], limits: Limits, header: &[u8], code: usize)
     requires { ⌜ length (now header) + code ≤ 4200 ⌝ }
 {
     let mut cells = [0u8; 4200];
     bytes::copy(header, &mut cells);
     let end = header.len() + code;
-    let validated = image::validate(&cells[..end], image::limits_of(limits));
+    let validated = validate(&cells[..end], limits);
     io::write_all(STDOUT_FILENO, label);
     io::write_all(STDOUT_FILENO, b": ");
-    io::print_decimal(STDOUT_FILENO, image::validation_number(validated) as u64);
+    io::print_decimal(STDOUT_FILENO, validation_number(validated) as u64);
     io::write_all(STDOUT_FILENO, b"\n");
 }
 
-fn with_limits(label: &[u8], limits: &[u8]) {
+fn with_limits(label: &[u8], limits: Limits) {
     case(label, limits, b"SLU\x00\x01\x80\x00\x01\x00\x01", 1);
 }
 
+fn with_areas(label: &[u8], limits: &[u8]) {
+    with_limits(label, limits_of(limits));
+}
+
+fn with_second(label: &[u8], low: u16, high: u16) {
+    with_limits(label, usual_limits(low, high));
+}
+
+// The usual limits without a second grant.
 fn with_image(label: &[u8], header: &[u8], code: usize)
     requires { ⌜ length (now header) + code ≤ 4200 ⌝ }
 {
-    case(label, &LIMITS, header, code);
+    case(label, usual_limits(0xFFFF, 0x0000), header, code);
 }
 
 fn limits_cases() {
-    with_limits(b"grant low above high", b"\x01\x00\x00\xFF\x03\x00\x03\xFF");
-    with_limits(b"stack low above high", b"\x00\x00\x00\xFF\x04\x00\x03\xFF");
-    with_limits(b"grant high 8000", b"\x04\x00\x80\x00\x03\x00\x03\xFF");
-    with_limits(b"stack high 8000", b"\x00\x00\x00\xFF\x03\x00\x80\x00");
-    with_limits(b"areas share 03FF", b"\x03\xFF\x04\xFF\x03\x00\x03\xFF");
-    with_limits(b"grant inside stack", b"\x03\x10\x03\x20\x03\x00\x03\xFF");
-    with_limits(b"no limits", b"");
-    with_limits(
-        b"grant above stack, to 7FFF",
-        b"\x04\x00\x7F\xFF\x00\x01\x03\xFF",
+    with_areas(
+        b"grant low above high",
+        b"\x01\x00\x00\xFF\x03\x00\x03\xFF\xFF\xFF\x00\x00",
     );
-    with_limits(b"one address each", b"\x00\x00\x00\x00\x00\x01\x00\x01");
+    with_areas(
+        b"stack low above high",
+        b"\x00\x00\x00\xFF\x04\x00\x03\xFF\xFF\xFF\x00\x00",
+    );
+    with_areas(
+        b"grant high 8000",
+        b"\x04\x00\x80\x00\x03\x00\x03\xFF\xFF\xFF\x00\x00",
+    );
+    with_areas(
+        b"stack high 8000",
+        b"\x00\x00\x00\xFF\x03\x00\x80\x00\xFF\xFF\x00\x00",
+    );
+    with_areas(
+        b"areas share 03FF",
+        b"\x03\xFF\x04\xFF\x03\x00\x03\xFF\xFF\xFF\x00\x00",
+    );
+    with_areas(
+        b"grant inside stack",
+        b"\x03\x10\x03\x20\x03\x00\x03\xFF\xFF\xFF\x00\x00",
+    );
+    with_areas(b"no limits", b"");
+    with_areas(
+        b"grant above stack, to 7FFF",
+        b"\x04\x00\x7F\xFF\x00\x01\x03\xFF\xFF\xFF\x00\x00",
+    );
+    with_areas(
+        b"one address each",
+        b"\x00\x00\x00\x00\x00\x01\x00\x01\xFF\xFF\x00\x00",
+    );
+    with_areas(
+        b"one address each, the second grant's 0000",
+        b"\x00\x01\x00\x01\x00\x02\x00\x02\x00\x00\x00\x00",
+    );
+}
+
+// None is one whose low is above its high, whatever the two are.
+fn second_grant_cases() {
+    with_second(b"second grant FFFF-0000", 0xFFFF, 0x0000);
+    with_second(b"second grant 0005-0004", 0x0005, 0x0004);
+    with_second(b"second grant 9000-8FFF", 0x9000, 0x8FFF);
+    with_second(b"second grant 0100-02FF, touching both", 0x0100, 0x02FF);
+    with_second(b"second grant 0400-7FFF", 0x0400, 0x7FFF);
+    with_second(b"second grant 0400-8000", 0x0400, 0x8000);
+    with_second(b"second grant 8000-8000", 0x8000, 0x8000);
+    with_second(b"second grant 00FF-02FF, meeting the grant", 0x00FF, 0x02FF);
+    with_second(b"second grant 0005-0005, inside the grant", 0x0005, 0x0005);
+    with_second(b"second grant 0100-0300, meeting the stack", 0x0100, 0x0300);
+    with_second(b"second grant 03FF-7FFF, meeting the stack", 0x03FF, 0x7FFF);
+    with_second(b"second grant 0100-7FFF, around the stack", 0x0100, 0x7FFF);
 }
 
 fn mark_and_version_cases() {
@@ -102,6 +172,7 @@ fn code_cases() {
 
 fn main() {
     limits_cases();
+    second_grant_cases();
     mark_and_version_cases();
     length_list_cases();
     code_cases();

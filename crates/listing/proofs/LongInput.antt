@@ -1,4 +1,4 @@
--- An input that is longer than any that is not refused prints what its first 4,177 bytes print: whoever reads no further loses nothing.
+-- An input that is longer than any that is not refused prints what its first 4,181 bytes print: whoever reads no further loses nothing.
 use Prim.Native.Nat.{ℕ, zero, suc, _+_, _≤_}
 use mathlib.Core.Path.{_≡_, refl, sym, ap, _∙_}
 use mathlib.Core.List.{List, [], _∷_}
@@ -61,18 +61,22 @@ refusal-front : (image : List ℕ) (limits : Limits) → 4169 ≤ length image �
 unfolding longRefusal
 refusal-front image limits h = rw (mark-front image h, version-front image)
 
-limits-front : (input : List ℕ) → limitsOf (take 4177 input) ≡ limitsOf input
+limits-front : (input : List ℕ) → limitsOf (take 4181 input) ≡ limitsOf input
 unfolding limitsOf wordAt
 limits-front input =
     rw (
-      getD-take 4177 input 0 0 (omega arith),
-      getD-take 4177 input 1 0 (omega arith),
-      getD-take 4177 input 2 0 (omega arith),
-      getD-take 4177 input 3 0 (omega arith),
-      getD-take 4177 input 4 0 (omega arith),
-      getD-take 4177 input 5 0 (omega arith),
-      getD-take 4177 input 6 0 (omega arith),
-      getD-take 4177 input 7 0 (omega arith),
+      getD-take 4181 input 0 0 (omega arith),
+      getD-take 4181 input 1 0 (omega arith),
+      getD-take 4181 input 2 0 (omega arith),
+      getD-take 4181 input 3 0 (omega arith),
+      getD-take 4181 input 4 0 (omega arith),
+      getD-take 4181 input 5 0 (omega arith),
+      getD-take 4181 input 6 0 (omega arith),
+      getD-take 4181 input 7 0 (omega arith),
+      getD-take 4181 input 8 0 (omega arith),
+      getD-take 4181 input 9 0 (omega arith),
+      getD-take 4181 input 10 0 (omega arith),
+      getD-take 4181 input 11 0 (omega arith),
     )
 
 drop-take : (n m : ℕ) (l : List ℕ) → drop n (take (n + m) l) ≡ take m (drop n l)
@@ -80,19 +84,19 @@ drop-take zero m l = rw (zero-add m)
 drop-take (suc n) m [] = rw (suc-add n m) (sym (take-nil m))
 drop-take (suc n) m (x ∷ l) = rw (suc-add n m) (drop-take n m l)
 
-input-refused : (input marks : List ℕ) → 4177 ≤ length input →
+input-refused : (input marks : List ℕ) → 4181 ≤ length input →
     listing (imageIn input) (checkedInput input marks) ≡ verdictLine (Refused (longRefusal (imageIn input) (limitsOf input)) 0)
 input-refused input marks h =
-    let whole : 8 ≤ length input = omega arith in
-    let long : 4169 ≤ length (imageIn input) = rw (length-drop 8 input) (omega arith) in
+    let whole : 12 ≤ length input = omega arith in
+    let long : 4169 ≤ length (imageIn input) = rw (length-drop 12 input) (omega arith) in
     let refused = checked-refused (imageIn input) (limitsOf input) marks _ (long-refused (imageIn input) (limitsOf input) long) in
     sym (refused-listing (imageIn input) marks (checkedInput input marks) _ (input-whole input marks whole ∙ refused) refl)
 
-pub long-input : (input marks : List ℕ) → 4177 ≤ length input →
-    listing (imageIn (take 4177 input)) (checkedInput (take 4177 input) marks) ≡ listing (imageIn input) (checkedInput input marks)
+pub long-input : (input marks : List ℕ) → 4181 ≤ length input →
+    listing (imageIn (take 4181 input)) (checkedInput (take 4181 input) marks) ≡ listing (imageIn input) (checkedInput input marks)
 long-input input marks h =
-    let front : 4177 ≤ length (take 4177 input) = omega (arith, length-take-le 4177 input h) in
-    let long : 4169 ≤ length (imageIn input) = rw (length-drop 8 input) (omega arith) in
-    let same : longRefusal (imageIn (take 4177 input)) (limitsOf (take 4177 input)) ≡ longRefusal (imageIn input) (limitsOf input) =
-    rw (limits-front input, drop-take 8 4169 input) (refusal-front (imageIn input) (limitsOf input) long) in
-    input-refused (take 4177 input) marks front ∙ ap (λ n. verdictLine (Refused n 0)) same ∙ sym (input-refused input marks h)
+    let front : 4181 ≤ length (take 4181 input) = omega (arith, length-take-le 4181 input h) in
+    let long : 4169 ≤ length (imageIn input) = rw (length-drop 12 input) (omega arith) in
+    let same : longRefusal (imageIn (take 4181 input)) (limitsOf (take 4181 input)) ≡ longRefusal (imageIn input) (limitsOf input) =
+    rw (limits-front input, drop-take 12 4169 input) (refusal-front (imageIn input) (limitsOf input) long) in
+    input-refused (take 4181 input) marks front ∙ ap (λ n. verdictLine (Refused n 0)) same ∙ sym (input-refused input marks h)

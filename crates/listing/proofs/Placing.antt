@@ -102,15 +102,15 @@ pub checked-refused : (image : List ℕ) (limits : Limits) (marks : List ℕ) (n
 unfolding checked
 checked-refused image limits marks number e = rw e
 
-pub input-short : (input marks : List ℕ) → length input < 8 → checkedInput input marks ≡ (Refused 1 0, marks)
+pub input-short : (input marks : List ℕ) → length input < 12 → checkedInput input marks ≡ (Refused 1 0, marks)
 unfolding checkedInput
-input-short input marks h = rw (lt-ltb (length input) 8 h)
+input-short input marks h = rw (lt-ltb (length input) 12 h)
 
-pub input-whole : (input marks : List ℕ) → 8 ≤ length input → checkedInput input marks ≡ checked (imageIn input) (limitsOf input) marks
+pub input-whole : (input marks : List ℕ) → 12 ≤ length input → checkedInput input marks ≡ checked (imageIn input) (limitsOf input) marks
 unfolding checkedInput
-input-whole input marks h = rw (le-ltb (length input) 8 h)
+input-whole input marks h = rw (le-ltb (length input) 12 h)
 
-pub input-listed : (input marks buffer : List ℕ) (limits : Limits) → 8 ≤ length input → limits ≡ limitsOf input →
-    listed (take (length input - 8) (drop 8 input)) marks buffer (checked (take (length input - 8) (drop 8 input)) limits marks) ≡
+pub input-listed : (input marks buffer : List ℕ) (limits : Limits) → 12 ≤ length input → limits ≡ limitsOf input →
+    listed (take (length input - 12) (drop 12 input)) marks buffer (checked (take (length input - 12) (drop 12 input)) limits marks) ≡
     listed (imageIn input) marks buffer (checkedInput input marks)
-input-listed input marks buffer limits h e = rw (part-to-end input 8, e, input-whole input marks h)
+input-listed input marks buffer limits h e = rw (part-to-end input 12, e, input-whole input marks h)

@@ -96,7 +96,7 @@ listing-size image limits marks = go (validated image limits) refl
 
 pub input-listing-size : (input marks : List ℕ) → length (listing (imageIn input) (checkedInput input marks)) ≤ longest
 unfolding checkedInput
-input-listing-size input marks = go (ltb (length input) 8)
+input-listing-size input marks = go (ltb (length input) 12)
   where
     go : (t : Bool) → length (listing (imageIn input) (cond t (Verdict.Refused 1 0, marks) (checked (imageIn input) (limitsOf input) marks))) ≤ longest
     go true = refused-listing-size (imageIn input) marks 1 0

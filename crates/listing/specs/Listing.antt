@@ -62,9 +62,9 @@ listed image marks buffer outcome =
     let lines = listing image outcome in
     cond (ltb (length buffer) longest) (TooShort, marks, buffer) (Bytes (length lines), outcome .1, lines ++ drop (length lines) buffer)
 
--- Standard input has the four limits (8 bytes, high byte first; fewer gives 1), then an image.
+-- Standard input has the six limits (12 bytes, high byte first; fewer gives 1), then an image.
 abbrev pub imageIn : List ℕ → List ℕ
-imageIn input = drop 8 input
+imageIn input = drop 12 input
 
 unfoldable pub checkedInput : List ℕ → List ℕ → Verdict × List ℕ
-checkedInput input marks = cond (ltb (length input) 8) (Refused 1 0, marks) (checked (imageIn input) (limitsOf input) marks)
+checkedInput input marks = cond (ltb (length input) 12) (Refused 1 0, marks) (checked (imageIn input) (limitsOf input) marks)

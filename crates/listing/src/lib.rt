@@ -32,7 +32,7 @@ pub fn list(image: &[u8], limits: Limits, marks: &mut [u16], buffer: &mut [u8]) 
     }
 }
 
-// The same for an input that has the limits in its first eight bytes, then the image; fewer bytes are refused with 1.
+// The same for an input that has the limits in its first twelve bytes, then the image; fewer bytes are refused with 1.
 pub fn list_input(input: &[u8], marks: &mut [u16], buffer: &mut [u8]) -> Written
     ensures { λ r. ⌜ (r, now (marks .exit), now (buffer .exit)) ≡
         listed (imageIn (now (input .entry))) (now (marks .entry)) (now (buffer .entry)) (checkedInput (now (input .entry)) (now (marks .entry))) ⌝ }
@@ -40,8 +40,8 @@ pub fn list_input(input: &[u8], marks: &mut [u16], buffer: &mut [u8]) -> Written
     if buffer.len() < LONGEST {
         return Written::TooShort;
     }
-    if input.len() < 8 {
+    if input.len() < 12 {
         return Written::Bytes(write_verdict(buffer, Verdict::Refused(1, 0)));
     }
-    list(&input[8..], limits_of(input), marks, buffer)
+    list(&input[12..], limits_of(input), marks, buffer)
 }

@@ -1,4 +1,4 @@
--- A case as bytes: limits, the size of memory, registers at 10, a step or a run, and the budget at 22.
+-- A case as bytes: limits, the size of memory, registers at 14, a step or a run, and the budget at 26.
 use Prim.Native.Nat.{ℕ, _+_, _*_}
 use mathlib.Core.List.{List}
 use lib.ListN.{take, drop}
@@ -12,9 +12,9 @@ use Rattle.vectors.specs.Bytes.{registersOf}
 
 -- the step of a case, on an image and a memory
 abbrev pub stepOf : List ℕ → List ℕ → List ℕ → Stepped × List ℕ
-stepOf bytes image memory = stepped image (limitsOf bytes) (registersOf (take 11 (drop 10 bytes))) memory
+stepOf bytes image memory = stepped image (limitsOf bytes) (registersOf (take 11 (drop 14 bytes))) memory
 
 -- its run
 abbrev pub runOf : List ℕ → List ℕ → List ℕ → Ran × List ℕ
 runOf bytes image memory =
-    ran (wordAt bytes 22 * 65536 + wordAt bytes 24) image (limitsOf bytes) (registersOf (take 11 (drop 10 bytes))) memory
+    ran (wordAt bytes 26 * 65536 + wordAt bytes 28) image (limitsOf bytes) (registersOf (take 11 (drop 14 bytes))) memory

@@ -1,4 +1,4 @@
-// Runs the cases of standard input, a line each: what the case is about, a colon, and in hexadecimal the limits (8 bytes), the size of memory
+// Runs the cases of standard input, a line each: what the case is about, a colon, and in hexadecimal the limits (12 bytes), the size of memory
 // (2), the registers A, X, Y, CC, SP and PC (11), 00 for a step or 01 for a run (1), the run's budget (4), the image's length (1), the image, and the
 // cells of memory that are not 00, an address and a byte each. Prints what the case is about, the answer, the registers and those cells after it,
 // in hexadecimal but for counts, and at last how many cases there were. No contract can speak of what is printed.
@@ -74,11 +74,11 @@ fn print_run_answer(answer: RunAnswer) {
 
 // A step from the case's registers: its answer is printed.
 fn step_case(case: &[u8], image: &[u8], memory: &mut [u8]) -> Registers
-    requires { ⌜ 27 ≤ length (now case) ⌝ }
+    requires { ⌜ 31 ≤ length (now case) ⌝ }
     ensures { λ r. ⌜ r ≡ stepOf (now (case .entry)) (now (image .entry)) (now (memory .entry)) .0 .registers ⌝ }
     ensures { λ r. ⌜ now (memory .exit) ≡ stepOf (now (case .entry)) (now (image .entry)) (now (memory .entry)) .1 ⌝ }
 {
-    let stepped = machine::step(image, limits_of(case), registers_of(&case[10..21]), memory);
+    let stepped = machine::step(image, limits_of(case), registers_of(&case[14..25]), memory);
     let answer = stepped.answer;
     print_step_answer(answer);
     stepped.registers
@@ -86,16 +86,16 @@ fn step_case(case: &[u8], image: &[u8], memory: &mut [u8]) -> Registers
 
 // A run from them: its answer and the steps made are printed.
 fn run_case(case: &[u8], image: &[u8], memory: &mut [u8]) -> Registers
-    requires { ⌜ 27 ≤ length (now case) ⌝ }
+    requires { ⌜ 31 ≤ length (now case) ⌝ }
     ensures { λ r. ⌜ r ≡ runOf (now (case .entry)) (now (image .entry)) (now (memory .entry)) .0 .registers ⌝ }
     ensures { λ r. ⌜ now (memory .exit) ≡ runOf (now (case .entry)) (now (image .entry)) (now (memory .entry)) .1 ⌝ }
 {
     let ran = machine::run(
         image,
         limits_of(case),
-        registers_of(&case[10..21]),
+        registers_of(&case[14..25]),
         memory,
-        word_at(case, 22) as u32 * 65536 + word_at(case, 24) as u32,
+        word_at(case, 26) as u32 * 65536 + word_at(case, 28) as u32,
     );
     let answer = ran.answer;
     print_run_answer(answer);
@@ -105,14 +105,14 @@ fn run_case(case: &[u8], image: &[u8], memory: &mut [u8]) -> Registers
 
 // The line of a case, after what it is about. A case that is cut short has none.
 fn case_line(case: &[u8], memory: &mut [u8]) {
-    let end = 27 + byte_at(case, 26) as usize;
+    let end = 31 + byte_at(case, 30) as usize;
     if case.len() < end {
         return;
     }
-    let image = &case[27..end];
+    let image = &case[31..end];
     let cells = &case[end..];
     put_cells(memory, cells);
-    let registers = if byte_at(case, 21) == 0 {
+    let registers = if byte_at(case, 25) == 0 {
         step_case(case, image, memory)
     } else {
         run_case(case, image, memory)
@@ -126,7 +126,7 @@ fn case(text: &[u8]) {
     let mut bytes = [0u8; 128];
     let mut memory = [0u8; 32768];
     let n = parse(text, &mut bytes);
-    let size = word_at(&bytes, 8) as usize;
+    let size = word_at(&bytes, 12) as usize;
     if size <= 32768 {
         case_line(&bytes[..n], &mut memory[..size]);
     }

@@ -30,7 +30,7 @@ same-result : (p q : StepAnswer) (r s : Registers) (m n : List ℕ) → p ≡ q 
 same-result p q r s m n e₁ e₂ e₃ = rw (e₁, e₂, e₃)
 
 pub step-goes : (image : List ℕ) (limits : Limits) (before : Registers) (memory : List ℕ) (r : Stepped) (m : List ℕ)
-    (after : Registers) (expected : List ℕ) → limits ≡ limitsOf (0x00 ∷ 0x00 ∷ 0x14 ∷ 0xFF ∷ 0x16 ∷ 0x00 ∷ 0x17 ∷ 0xFF ∷ []) →
+    (after : Registers) (expected : List ℕ) → limits ≡ limitsOf (0x00 ∷ 0x00 ∷ 0x14 ∷ 0xFF ∷ 0x16 ∷ 0x00 ∷ 0x17 ∷ 0xFF ∷ 0xFF ∷ 0xFF ∷ 0x00 ∷ 0x00 ∷ []) →
     stepped image limits before memory ≡ (r, m) → r .answer ≡ Made → r .registers ≡ after → m ≡ expected →
     Goes image before memory after expected
 unfolding Goes

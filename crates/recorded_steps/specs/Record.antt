@@ -28,10 +28,10 @@ cellsBefore s memory = withCells memory (take 12 (drop 17 s))
 unfoldable pub cellsAfter : List ℕ → List ℕ → List ℕ
 cellsAfter s memory = withCells (withCells memory (take 12 (drop 17 s))) (take 6 (drop 40 s))
 
--- the step is made and leaves the registers and the memory expected, under grant 0000-14FF, stack 1600-17FF
+-- the step is made and leaves the registers and the memory expected, under grant 0000-14FF, stack 1600-17FF, no second grant
 unfoldable pub Goes : List ℕ → Registers → List ℕ → Registers → List ℕ → Type 0
 Goes image before memory after expected =
-    stepped image (limitsOf (0x00 ∷ 0x00 ∷ 0x14 ∷ 0xFF ∷ 0x16 ∷ 0x00 ∷ 0x17 ∷ 0xFF ∷ [])) before memory ≡ result Made after expected
+    stepped image (limitsOf (0x00 ∷ 0x00 ∷ 0x14 ∷ 0xFF ∷ 0x16 ∷ 0x00 ∷ 0x17 ∷ 0xFF ∷ 0xFF ∷ 0xFF ∷ 0x00 ∷ 0x00 ∷ [])) before memory ≡ result Made after expected
 
 -- it does so as a record says, from the record's cells in two memories
 unfoldable pub AsRecorded : List ℕ → List ℕ → List ℕ → Type 0

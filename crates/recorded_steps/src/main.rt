@@ -13,9 +13,6 @@ use numbers::words::byte_at;
 use vectors::put_cells;
 use vectors::registers_of;
 
-// grant 0000-14FF, stack 1600-17FF: under these every record is a step made
-const LIMITS: [u8; 8] = [0x00, 0x00, 0x14, 0xFF, 0x16, 0x00, 0x17, 0xFF];
-
 struct Totals {
     steps: u64,
     differences: u64,
@@ -65,7 +62,8 @@ fn same_registers(r: Registers, s: Registers) -> bool
     r.pc == s.pc
 }
 
-// Whether a step is made and leaves the registers and the memory expected.
+// Whether a step is made and leaves the registers and the memory expected, under grant 0000-14FF, stack 1600-17FF and no second grant: under
+// these every record is a step made.
 fn goes(
     image: &[u8],
     before: Registers,
@@ -75,7 +73,8 @@ fn goes(
 ) -> bool
     ensures { λ r. ⌜ (r ≡ true → Goes (now (image .entry)) before (now (memory .entry)) after (now (expected .entry))) ⌝ }
 {
-    let stepped = machine::step(image, limits_of(&LIMITS), before, memory);
+    let limits = limits_of(b"\x00\x00\x14\xFF\x16\x00\x17\xFF\xFF\xFF\x00\x00");
+    let stepped = machine::step(image, limits, before, memory);
     let answer = stepped.answer;
     let StepAnswer::Made = answer else {
         return false;

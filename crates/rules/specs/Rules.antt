@@ -30,7 +30,8 @@ pub record JumpRules (image : List ℕ) (r : ℕ) (At : ℕ → ℕ → Type 0) 
   pub high : to < endOf image r
   pub lands : At to depth
 
--- A direct store, both bytes of a word included, lies in the grant. An SP store at offset f needs f at least 1 and its last byte at most at the depth.
+-- A direct store, both bytes of a word included, lies wholly in one of the two grants. An SP store at offset f needs f at least 1 and its last byte at
+-- most at the depth.
 abbrev pub StoreRules : Limits → ℕ → Place → Type 0
 StoreRules limits depth Nowhere = Unit {0}
 StoreRules limits depth (Direct address w) = StoreGranted limits address (bytesWide w)

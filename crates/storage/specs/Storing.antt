@@ -26,7 +26,7 @@ unfoldable pub moveTrap : Limits → ℕ → Effect → ℕ
 moveTrap limits sp e =
     first (under (limits .stack .high) (sp + e .pops) 24) (under (sp + e .pops + 1) (limits .stack .low + e .pushes) 24)
 
--- 25, store outside grant, or SP store outside SP + 1 to stack high
+-- 25, direct store not wholly in one of the two grants, or SP store outside SP + 1 to stack high
 unfoldable pub storeTrap : Limits → ℕ → Place → ℕ
 storeTrap limits sp Nowhere = 0
 storeTrap limits sp (Direct a w) = unless (granted limits a (bytesWide w)) 25

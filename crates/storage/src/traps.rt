@@ -28,7 +28,7 @@ pub fn move_trap(limits: Limits, sp: u16, pops: u8, pushes: u8) -> u8
     )
 }
 
-// 25, a direct store outside the grant.
+// 25, a direct store that does not lie wholly in one of the grants.
 pub(crate) fn direct_trap(limits: Limits, address: u16, w: Width) -> u8
     ensures { λ r. ⌜ ((sp : ℕ) → r ≡ storeTrap limits sp (Direct address w)) ⌝ }
 {

@@ -16,7 +16,7 @@ use Rattle.byte_operations.specs.Unary as Unary
 use Rattle.index_operations.specs.Words as WordResults
 use Rattle.image.specs.Image as Image
 use Rattle.image.specs.Validation as Validation
-use Rattle.image.specs.Access.{granted}
+use Rattle.image.specs.Access.{wholly, granted}
 use Rattle.code.specs.Depth as Depth
 use Rattle.code.specs.Code as Code
 use Rattle.code.specs.Set as Set
@@ -38,8 +38,8 @@ pub all-hold : map outcome cases ≡ map expected cases
 unfolding xor Bits.bit Checks.first Checks.both Checks.under Checks.unless Checks.differ Folds.firstIn Folds.total Lists.same Words.word Words.high
     Words.low Words.wordAt CC.withBit Flags.withNZ Sums.sum Sums.carryOut Sums.borrowOut Sums.difference Sums.sumOverflow Sums.afterSum
     Accumulator.added Accumulator.resultNZ Accumulator.aluResult Unary.modifyResult WordResults.mulResult Effects.relative Effects.jumpTarget
-    Effects.callTarget granted Image.versionOf Image.baseOf Image.countOf Image.lengthsOf Image.lengthAt Image.codeAt Image.codeOf Image.sizeOf
-    Image.layoutOf Image.startOf Image.endOf Image.mainOf Validation.areaCheck Validation.apart Validation.limitsCheck Validation.markCheck
+    Effects.callTarget wholly granted Image.versionOf Image.baseOf Image.countOf Image.lengthsOf Image.lengthAt Image.codeAt Image.codeOf Image.sizeOf
+    Image.layoutOf Image.startOf Image.endOf Image.mainOf Validation.areaCheck Validation.apart Validation.secondCheck Validation.limitsCheck Validation.markCheck
     Validation.versionCheck Validation.lengthCheck Validation.lengthsCheck Validation.headerCheck Validation.layoutCheck Validation.refusal
     Validation.validated Set.decodedFor Depth.popped Depth.pushed Code.decodedAt
     Routine.jumpNumber Routine.depthNumber Routine.countFrom Measuring.callUse Measuring.greatestUse Cells.targetCell Cells.storeCell

@@ -1,4 +1,4 @@
--- The cases that document 01 marks with ●, in its order, as W-202 has them, and W-202's own: one table. What it expects is held against the
+-- The cases that document 01 marks with ●, in its order, as W-202 has them, and W-202's and W-205's own: one table. What it expects is held against the
 -- definitions that the contracts of `check` and `step` cite.
 use Prim.Native.Nat.{ℕ}
 use mathlib.Core.List.{List, [], _∷_, _++_}
@@ -6,6 +6,7 @@ use lib.ListN.{length, replicate}
 use Rattle.numbers.specs.Ascii.{ascii}
 use Rattle.numbers.specs.Words.{high, low}
 use Rattle.image.specs.Image.{sizeOf}
+use Rattle.image.specs.declared.Area.{Area}
 use Rattle.image.specs.declared.Limits.{Limits}
 use Rattle.acceptance.specs.Check.{checked}
 use Rattle.rules.specs.declared.Verdict.{Verdict}
@@ -15,12 +16,18 @@ use Rattle.machine.specs.Step.{stepped}
 use Rattle.execution.specs.declared.Registers.{Registers}
 use Rattle.execution.specs.declared.StepAnswer.the-variants.{Made}
 
--- Examples use grant 0000-00FF, stack 0300-03FF,
+-- Examples use grant 0000-00FF, stack 0300-03FF, no second grant,
+abbrev pub limitsWith : (stackLow : ℕ) (second : Area) → Limits
+limitsWith stackLow second = record { grant = record { low = 0x0000; high = 0x00FF }; stack = record { low = stackLow; high = 0x03FF }; second = second }
+
 abbrev pub stackFrom : ℕ → Limits
-stackFrom low = record { grant = record { low = 0x0000; high = 0x00FF }; stack = record { low = low; high = 0x03FF } }
+stackFrom low = limitsWith low (record { low = 0xFFFF; high = 0x0000 })
 
 abbrev pub usual : Limits
 usual = stackFrom 0x0300
+
+abbrev pub secondGrant : ℕ → ℕ → Limits
+secondGrant low high = limitsWith 0x0300 (record { low = low; high = high })
 
 -- 16 bits each, high byte first
 abbrev pub words : List ℕ → List ℕ
@@ -91,6 +98,14 @@ cases =
     checks twoRoutines usual (Accepted 5 5) ∷
     checks twoRoutines (stackFrom 0x03FB) (Accepted 5 5) ∷
     checks twoRoutines (stackFrom 0x03FC) (Refused 16 0) ∷
+    -- W-205: a word over the seam of two grants, and its two bytes one by one
+    checks (routine (0xCF ∷ 0x00 ∷ 0xFF ∷ 0x81 ∷ [])) (secondGrant 0x0100 0x01FF) (Refused 12 0) ∷
+    checks (routine (0xC7 ∷ 0x00 ∷ 0xFF ∷ 0xC7 ∷ 0x01 ∷ 0x00 ∷ 0x81 ∷ [])) (secondGrant 0x0100 0x01FF) (Accepted 2 3) ∷
+    -- low above high means none
+    checks (routine (0xC7 ∷ 0x02 ∷ 0x05 ∷ 0x81 ∷ [])) (secondGrant 0x0205 0x0204) (Refused 12 0) ∷
+    -- a second grant that meets the stack, and one above 7FFF
+    checks (routine (0x81 ∷ [])) (secondGrant 0x0100 0x0300) (Refused 1 0) ∷
+    checks (routine (0x81 ∷ [])) (secondGrant 0x4000 0x8000) (Refused 1 0) ∷
     -- ADD A,#$94 with A B5: A 49, V 1, H 0, N 0, Z 0, C 1
     steps (0xAB ∷ 0x94 ∷ []) (registers 0xB5 0x0000 0b0000_0000 0x8000) (registers 0x49 0x0000 0b1000_0001 0x8002) ∷
     steps (0xAB ∷ 0x94 ∷ []) (registers 0xB5 0x0000 0b1111_1111 0x8000) (registers 0x49 0x0000 0b1110_1001 0x8002) ∷

@@ -6,7 +6,7 @@
 //! All times are elapsed time: the standard library has no clock for processor time, and the system's account of it for another
 //! process ticks in 10 ms.
 
-use gate_host::{slu, twin, Ending, Limits, Refusal, Registers, Run, MARKS_ENOUGH, MEMORY_BYTES};
+use gate_host::{slu, twin, Area, Ending, Limits, Refusal, Registers, Run, MARKS_ENOUGH, MEMORY_BYTES};
 use std::fs;
 use std::hint::black_box;
 use std::io::Write;
@@ -17,7 +17,8 @@ use std::time::Instant;
 // One more than a multiple of four, so that the median and the ends of the middle half are rounds themselves.
 const SHORT_ROUNDS: usize = 201;
 const LONG_ROUNDS: usize = 9;
-const LIMITS: Limits = Limits { grant_low: 0x0000, grant_high: 0x00FF, stack_low: 0x1600, stack_high: 0x17FF };
+const LIMITS: Limits =
+    Limits { grant: Area { low: 0x0000, high: 0x00FF }, stack: Area { low: 0x1600, high: 0x17FF }, second: Area::NONE };
 const BASE: u16 = 0x8000;
 
 /// What each took for one and the same thing, in nanoseconds: `None` where there is nothing to measure.

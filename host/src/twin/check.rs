@@ -3,7 +3,7 @@
 //! A routine is tested in the order of W-202, wholly before the next one: 8, 9 and 15 at each start; 13 and 10 at each jump; 6; 7;
 //! then 11, 12 and 14 at each start. 16 comes after the last routine.
 
-use super::decode::{decode, Instruction, Modify, Place, Target, Undecodable};
+use super::decode::{decode, Instruction, Place, Undecodable};
 use super::image::{validate, Image};
 use crate::types::{Accepted, Limits, Refusal, Refused};
 
@@ -73,7 +73,7 @@ impl<'a> Check<'a> {
             self.earlier.push(Callee { address: self.image.base as i32 + first as i32, need });
         }
         let need = 2 + self.earlier.last().map_or(0, |main| main.need);
-        if self.limits.stack_high - self.limits.stack_low + 1 < need {
+        if self.limits.stack.high - self.limits.stack.low + 1 < need {
             return Err(Refusal::Stack.into());
         }
         Ok(Accepted { need, count: self.starts.len() as u16 })
@@ -220,24 +220,10 @@ fn depth_change(instruction: Instruction) -> i32 {
 }
 
 fn store_allowed(instruction: Instruction, depth: u8, limits: &Limits) -> bool {
-    use Instruction::*;
-    let direct =
-        |address: u16, bytes: u32| limits.grant_low <= address && u32::from(address) + bytes - 1 <= limits.grant_high.into();
-    let place = |place: Place, bytes: u32| match place {
-        Place::Short(address) => direct(address.into(), bytes),
-        Place::Long(address) => direct(address, bytes),
-        Place::Stack(offset) => offset >= 1 && u32::from(offset) + bytes - 1 <= depth.into(),
-    };
+    let on_stack = |offset: u8, bytes: u32| offset >= 1 && u32::from(offset) + bytes - 1 <= depth.into();
     match instruction {
-        StoreA(to) => place(to, 1),
-        StoreWord(to, _) => place(to, 2),
-        Modify(self::Modify::Tnz, _) => true,
-        Modify(_, Target::Short(address)) => direct(address.into(), 1),
-        Modify(_, Target::Long(address)) => direct(address, 1),
-        Bit(_, address, _) => direct(address, 1),
-        MoveImmediate { to, .. } | MoveLong { to, .. } => direct(to, 1),
-        MoveShort { to, .. } => direct(to.into(), 1),
-        PopLong(address) => direct(address, 1),
-        _ => true,
+        Instruction::StoreA(Place::Stack(offset)) => on_stack(offset, 1),
+        Instruction::StoreWord(Place::Stack(offset), _) => on_stack(offset, 2),
+        _ => instruction.direct_store().is_none_or(|(address, bytes)| limits.grants(address, bytes)),
     }
 }

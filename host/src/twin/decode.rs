@@ -157,6 +157,28 @@ pub enum Instruction {
     ResetOverflow,
 }
 
+impl Instruction {
+    /// The address that it stores at other than by SP, if it does, and how many bytes.
+    #[inline]
+    pub fn direct_store(self) -> Option<(u16, u32)> {
+        use Instruction::*;
+        let at = |place: Place, bytes: u32| match place {
+            Place::Short(address) => Some((address.into(), bytes)),
+            Place::Long(address) => Some((address, bytes)),
+            Place::Stack(_) => None,
+        };
+        match self {
+            StoreA(to) => at(to, 1),
+            StoreWord(to, _) => at(to, 2),
+            Modify(self::Modify::Tnz, _) => None,
+            Modify(_, Target::Short(address)) | MoveShort { to: address, .. } => Some((address.into(), 1)),
+            Modify(_, Target::Long(address)) | Bit(_, address, _) | PopLong(address) => Some((address, 1)),
+            MoveImmediate { to, .. } | MoveLong { to, .. } => Some((to, 1)),
+            _ => None,
+        }
+    }
+}
+
 /// Why bytes are no instruction.
 #[derive(Clone, Copy, Debug, PartialEq, Eq)]
 pub enum Undecodable {

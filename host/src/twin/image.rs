@@ -1,6 +1,6 @@
-//! Limits and the layout of an SLU image: refusals 1 to 4.
+//! Limits and the layout of an SLU image: refusals 1 to 4, and where a direct store may go.
 
-use crate::types::{Limits, Refusal};
+use crate::types::{Area, Limits, Refusal};
 
 const HEADER: usize = 8;
 const CODE_AT_MOST: usize = 4_096;
@@ -60,15 +60,39 @@ fn routine_lengths(table: &[u8]) -> impl Iterator<Item = usize> + '_ {
     table.chunks_exact(2).map(|pair| usize::from(u16::from_be_bytes([pair[0], pair[1]])))
 }
 
-/// Refusal 1: in both areas low is not above high and both are at most 7FFF, stack low is at least 1, and no address is in both.
+/// Refusal 1: each area lies in the memory, stack low is at least 1, and no address is in two of them. A second grant that is
+/// empty is none, and obeys no rule.
 pub fn validate(limits: &Limits) -> Result<(), Refusal> {
-    let area = |low: u16, high: u16| low <= high && high <= 0x7FFF;
-    let apart = limits.grant_high < limits.stack_low || limits.stack_high < limits.grant_low;
-    let good =
-        area(limits.grant_low, limits.grant_high) && area(limits.stack_low, limits.stack_high) && limits.stack_low >= 1 && apart;
-    if good {
+    let Limits { grant, stack, second } = *limits;
+    let first_two = grant.in_memory() && stack.in_memory() && stack.low >= 1 && grant.apart(stack);
+    if first_two && (second.is_empty() || second.in_memory() && second.apart(grant) && second.apart(stack)) {
         Ok(())
     } else {
         Err(Refusal::Limits)
+    }
+}
+
+impl Area {
+    fn in_memory(self) -> bool {
+        self.low <= self.high && self.high <= 0x7FFF
+    }
+
+    /// Whether two areas that are not empty have no address in common.
+    fn apart(self, other: Area) -> bool {
+        self.high < other.low || other.high < self.low
+    }
+
+    /// Whether so many bytes from `address` on, one at least, lie in it. In an empty area none do.
+    #[inline]
+    pub fn holds(self, address: u16, bytes: u32) -> bool {
+        self.low <= address && u32::from(address) + bytes - 1 <= self.high.into()
+    }
+}
+
+impl Limits {
+    /// Whether a direct store of so many bytes may go to `address`: it lies wholly in one of the grants, which may touch.
+    #[inline]
+    pub fn grants(&self, address: u16, bytes: u32) -> bool {
+        self.grant.holds(address, bytes) || self.second.holds(address, bytes)
     }
 }

@@ -25,9 +25,9 @@ pub fn start(
     let memory = lent(memory)?;
     let accepted = check(file, limits, marks)?;
     let image = Image::parse(file)?;
-    let top = usize::from(limits.stack_high);
+    let top = usize::from(limits.stack.high);
     memory[top - 1..=top].fill(0);
-    *registers = Registers { sp: limits.stack_high - 2, pc: image.base + image.main() as u32, ..before };
+    *registers = Registers { sp: limits.stack.high - 2, pc: image.base + image.main() as u32, ..before };
     Ok(accepted)
 }
 
@@ -89,7 +89,7 @@ impl<'a> Machine<'a> {
     #[inline]
     fn step(&mut self, registers: Registers) -> Result<Registers, Trap> {
         let sp = registers.sp;
-        if sp < self.limits.stack_low - 1 || sp > self.limits.stack_high {
+        if sp < self.limits.stack.low - 1 || sp > self.limits.stack.high {
             return Err(Trap::Sp);
         }
         let offset = registers.pc.wrapping_sub(self.image.base) as usize;
@@ -268,16 +268,11 @@ impl<'a> Machine<'a> {
         }
     }
 
-    // Storing: where, or trap 25. The grant and the stack lie in the memory.
+    // Storing: where, or trap 25. The grants and the stack lie in the memory.
 
     #[inline]
     fn direct(&self, address: u16, bytes: u32) -> Result<usize, Trap> {
-        let last = u32::from(address) + bytes - 1;
-        if address >= self.limits.grant_low && last <= self.limits.grant_high.into() {
-            Ok(address.into())
-        } else {
-            Err(Trap::Store)
-        }
+        self.limits.grants(address, bytes).then_some(address.into()).ok_or(Trap::Store)
     }
 
     #[inline]
@@ -287,7 +282,7 @@ impl<'a> Machine<'a> {
             Place::Long(address) => self.direct(address, bytes),
             Place::Stack(offset) => {
                 let address = u32::from(r.sp) + u32::from(offset);
-                let inside = offset >= 1 && address + bytes - 1 <= self.limits.stack_high.into();
+                let inside = offset >= 1 && address + bytes - 1 <= self.limits.stack.high.into();
                 inside.then_some(address as usize).ok_or(Trap::Store)
             }
         }
@@ -313,11 +308,11 @@ impl<'a> Machine<'a> {
     // The stack: SP stays from stack low - 1 to stack high, or trap 24.
 
     fn lowered(&self, sp: u16, count: u16) -> Result<u16, Trap> {
-        sp.checked_sub(count).filter(|&lower| lower >= self.limits.stack_low - 1).ok_or(Trap::Stack)
+        sp.checked_sub(count).filter(|&lower| lower >= self.limits.stack.low - 1).ok_or(Trap::Stack)
     }
 
     fn raised(&self, sp: u16, count: u16) -> Result<u16, Trap> {
-        sp.checked_add(count).filter(|&higher| higher <= self.limits.stack_high).ok_or(Trap::Stack)
+        sp.checked_add(count).filter(|&higher| higher <= self.limits.stack.high).ok_or(Trap::Stack)
     }
 
     fn push(&mut self, byte: u8, r: &mut Registers) -> Result<(), Trap> {

@@ -7,7 +7,7 @@ use Rattle.gate_c.proofs.Answers.{checked-by}
 returns : tie.Need-returns
 returns c =
     let c4 = c .before .before .before .before in
-    checked-by _ _ _ _ _ _ _ _ (c4 .before .before .limits .ensures) (c4 .check .ensures .0) (c .verdict-number .ensures) (c .before .offset-need-count .ensures)
+    checked-by _ _ _ _ _ _ _ _ (c4 .before .before .limits-in .ensures) (c4 .check .ensures .0) (c .verdict-number .ensures) (c .before .offset-need-count .ensures)
 
 pub gate-check-spec : {M : Type 1} → statement M
 gate-check-spec =

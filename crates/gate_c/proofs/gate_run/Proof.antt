@@ -10,7 +10,7 @@ returns c =
     let c2 = c .before .before in
     let c5 = c2 .before .before .before in
     let c7 = c5 .before .before in
-    ran-by _ _ _ _ _ _ _ _ _ _ _ _ (c7 .before .before .limits .ensures) (c7 .registers-in .ensures) (c5 .run .ensures .0)
+    ran-by _ _ _ _ _ _ _ _ _ _ _ _ (c7 .before .before .limits-in .ensures) (c7 .registers-in .ensures) (c5 .run .ensures .0)
     (c .run-number .ensures) (c2 .register-cells .ensures) refl
 
 pub gate-run-spec : {M : Type 1} → statement M

@@ -9,7 +9,7 @@ returns c =
     let c2 = c .before .before in
     let c7 = c2 .before .before .before .before .before in
     let c10 = c7 .before .before .before in
-    started-by _ _ _ _ _ _ _ _ _ _ _ _ _ (c10 .limits .ensures) (c10 .before .registers-in .ensures) (c7 .start .ensures .0)
+    started-by _ _ _ _ _ _ _ _ _ _ _ _ _ (c10 .limits-in .ensures) (c10 .before .registers-in .ensures) (c7 .start .ensures .0)
     (c .verdict-number .ensures) (c .before .offset-need-count .ensures) (c2 .register-cells .ensures)
 
 pub gate-start-spec : {M : Type 1} → statement M

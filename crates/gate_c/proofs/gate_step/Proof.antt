@@ -8,7 +8,7 @@ returns : tie.Need-returns
 returns c =
     let c4 = c .before .before .before .before in
     let c6 = c4 .before .before in
-    stepped-by _ _ _ _ _ _ _ _ _ _ (c6 .before .before .limits .ensures) (c6 .registers-in .ensures) (c4 .step .ensures .0)
+    stepped-by _ _ _ _ _ _ _ _ _ _ (c6 .before .before .limits-in .ensures) (c6 .registers-in .ensures) (c4 .step .ensures .0)
     (c .step-number .ensures) (c .before .register-cells .ensures)
 
 pub gate-step-spec : {M : Type 1} → statement M

@@ -6,10 +6,10 @@ use Rattle.gate_cases.proofs.digest.Statement.{statement}
 use Rattle.gate_cases.proofs.digest.Tie as tie
 
 abbrev Inv-loop : tie.InvT-loop
-Inv-loop memory grant used a₀ b₀ at₀ a b at = (at ≤ length memory) × (a < 65521) × (b < 65521)
+Inv-loop memory grant second used a₀ b₀ at₀ a b at = (at ≤ length memory) × (a < 65521) × (b < 65521)
 
 abbrev μ-loop : tie.MeasureT-loop
-μ-loop memory grant used a₀ b₀ at₀ a b at = length memory - at
+μ-loop memory grant second used a₀ b₀ at₀ a b at = length memory - at
 
 pub digest-spec : {M : Type 1} → statement M
 digest-spec =

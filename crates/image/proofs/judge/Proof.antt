@@ -9,18 +9,16 @@ use Rattle.image.proofs.judge.Tie as tie
 
 returns : tie.Need-returns
 unfolding firstIn validated refusal versionCheck versionOf
-returns c =
+returns c limits is =
     let c4 = c .before .before .before .before in
-    let c8 = c4 .before .before .before .before in
-    rw (c .answer .ensures, c .before .first3 .ensures, c .before .before .first2 .ensures, c .before .before .before .first .ensures)
+    rw (← is, c .answer .ensures, c .before .first3 .ensures, c .before .before .first2 .ensures, c .before .before .before .first .ensures)
     (rw (c4 .layout-check .ensures .0, c4 .layout-check .ensures .1, c4 .before .differ .ensures, c4 .before .before .word-at .ensures)
-    (rw (c4 .before .before .before .mark-check .ensures, c8 .limits-check .ensures) (simp (first-assoc, first-none))))
+    (rw (c4 .before .before .before .mark-check .ensures) (simp (first-assoc, first-none))))
 
 pub judge-spec : {M : Type 1} → statement M
 judge-spec =
     tie.close
     (tie.spec
-    (λ c κs. search needs)
     (λ c κs. search needs)
     (λ c κs. search needs)
     (λ c. search needs)

@@ -20,7 +20,6 @@ case-spec =
     slice-aggregate-validate
     (λ c κs. search needs)
     (λ c κs. search needs)
-    (λ c κs. search needs)
     (λ c. search needs)
     (λ c κs. search needs)
     (λ c κs. search needs)

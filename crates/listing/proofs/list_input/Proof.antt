@@ -2,6 +2,7 @@
 use Prim.Native.Nat.{ℕ}
 use mathlib.Core.Path.{refl, sym, ap, _∙_}
 use mathlib.Core.List.{List}
+use native.Mathlib.Omega.{arith}
 use borrow.Author.Needs.{needs}
 use denote.Ref.{now}
 use Rattle.rules.specs.declared.Verdict.{Verdict}
@@ -25,7 +26,7 @@ returns-2 c =
     let a = c9 .args in
     let input = now (a .input) in
     let marks = now (a .marks) in
-    let refused = input-short input marks (c4 .if2 .taken) in
+    let refused = input-short input marks (omega (arith, c4 .if2 .taken)) in
     listed-fits (imageIn input) marks (now (a .buffer)) (checkedInput input marks) (c5 .if1 .left) (input-listing-size input marks) _ _ _
     (rw (refused-listing (imageIn input) marks (checkedInput input marks) _ refused refl) at (c2 .write-verdict .ensures))
     (sym (ap (λ (o : Verdict × List ℕ). o .1) refused))

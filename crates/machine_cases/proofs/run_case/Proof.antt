@@ -18,7 +18,7 @@ returns c =
     let c13 = c11 .before .before in
     let a = c13 .before .before .before .before .args in
     let b = c9 .word-at .result * 65536 + c8 .word-at2 .result in
-    let eb : b ≡ wordAt (now (a .case)) 22 * 65536 + wordAt (now (a .case)) 24 = rw (c9 .word-at .ensures, c8 .word-at2 .ensures) in
+    let eb : b ≡ wordAt (now (a .case)) 26 * 65536 + wordAt (now (a .case)) 28 = rw (c9 .word-at .ensures, c8 .word-at2 .ensures) in
     run-parts (now (a .image)) (now (a .memory)) _ (c13 .limits-of .result) _ (c11 .registers-of .result) _
     (c13 .limits-of .ensures) (c11 .registers-of .ensures) (c7 .run .result) b _ eb (c7 .run .ensures .0)
 

@@ -1,9 +1,11 @@
 //! One call to the library and to the twin, every cell compared, and the tally of answers.
 
+use crate::limits::Second;
 use crate::program::{Case, Known, Shape};
 use crate::random::Random;
 use gate_host::cells::{self, RegisterCells, ReportCells};
-use gate_host::{twin, Accepted, Ending, Limits, Refused, Registers, Step, Trap, MEMORY_BYTES, TEXT_BYTES};
+use gate_host::twin::{self, Instruction};
+use gate_host::{Accepted, Ending, Limits, Refused, Registers, Step, Trap, MEMORY_BYTES, TEXT_BYTES};
 use std::fmt::Debug;
 
 /// What differed, in words, or nothing.
@@ -26,6 +28,8 @@ pub struct Tally {
     pub opcodes: Vec<[u64; 256]>,
     /// Control flow of the images that were checked as they were made, in the order of `Shape::ALL`.
     pub shapes: [u64; Shape::ALL.len()],
+    /// What was met of the second grant, in the order of `Second`.
+    pub second: [u64; Second::ALL.len()],
     /// Trap 22: PC not in the code, bytes that run out, a call whose next address is 10000.
     pub trap_22: [u64; 3],
 }
@@ -39,6 +43,16 @@ impl Tally {
         for (times, &shape) in self.shapes.iter_mut().zip(&Shape::ALL) {
             *times += u64::from(case.shapes.contains(&shape));
         }
+    }
+
+    pub fn note_second(&mut self, met: impl IntoIterator<Item = Second>) {
+        for what in met {
+            self.second[what as usize] += 1;
+        }
+    }
+
+    pub fn times(&self, what: Second) -> u64 {
+        self.second[what as usize]
     }
 
     /// The op-codes of which a step was made.
@@ -130,6 +144,8 @@ pub fn check(case: &Case, marks: &[u16], tally: &mut Tally) -> Compared<Option<A
     same("check: number, and offset, need, count", &(number, report), &report_cells(verdict))?;
     same_cells("check: mark", &library, &other)?;
     tally.check.add(number);
+    let refused = code_from(&case.image, report[0].into()).and_then(instruction);
+    tally.note_second(Second::of_refusal(&case.limits, number, refused));
     if let Some(known) = &case.known {
         by_construction(known, number, report, &library)?;
     }
@@ -197,22 +213,44 @@ pub fn step(
     same("step: number and registers", &(number, registers), &(twin_number, twin_registers.to_cells()))?;
     memories.same()?;
     tally.step.add(number);
-    match answer {
-        Ok(Step::Made) => note_opcode(image, given, tally),
-        Ok(Step::Trapped(Trap::Pc)) => note_trap_22(image, given, tally),
-        _ => {}
+    if let Ok(answer) = answer {
+        note_step(answer, bytes_at(image, given), limits, tally);
     }
     Ok((number, registers))
 }
 
-/// The code bytes from PC on, where PC is in the code of a good image.
-fn bytes_at(image: &[u8], registers: RegisterCells) -> Option<&[u8]> {
-    let image = twin::Image::parse(image).ok()?;
-    image.code.get(registers[5].wrapping_sub(image.base) as usize..).filter(|bytes| !bytes.is_empty())
+/// Notes what was met by a step at these code bytes.
+fn note_step(answer: Step, bytes: Option<&[u8]>, limits: &Limits, tally: &mut Tally) {
+    let instruction = bytes.and_then(instruction);
+    match answer {
+        Step::Made => {
+            note_opcode(bytes, tally);
+            tally.note_second(instruction.and_then(|made| Second::of_step(limits, made)));
+        }
+        Step::Trapped(Trap::Pc) => note_trap_22(bytes, tally),
+        Step::Trapped(Trap::Store) => tally.note_second(instruction.and_then(|trapped| Second::of_trap(limits, trapped))),
+        _ => {}
+    }
 }
 
-fn note_opcode(image: &[u8], registers: RegisterCells, tally: &mut Tally) {
-    let (page, opcode) = match bytes_at(image, registers) {
+/// The code bytes from PC on, where PC is in the code of a good image.
+fn bytes_at(image: &[u8], registers: RegisterCells) -> Option<&[u8]> {
+    let base = twin::Image::parse(image).ok()?.base;
+    code_from(image, registers[5].wrapping_sub(base) as usize)
+}
+
+/// The code bytes from `offset` on, where that is in the code of a good image.
+fn code_from(image: &[u8], offset: usize) -> Option<&[u8]> {
+    twin::Image::parse(image).ok()?.code.get(offset..).filter(|bytes| !bytes.is_empty())
+}
+
+/// The instruction at the front of `bytes`.
+fn instruction(bytes: &[u8]) -> Option<Instruction> {
+    twin::decode(bytes).ok().map(|(instruction, _)| instruction)
+}
+
+fn note_opcode(bytes: Option<&[u8]>, tally: &mut Tally) {
+    let (page, opcode) = match bytes {
         Some([0x72, opcode, ..]) => (1, *opcode),
         Some([0x90, opcode, ..]) => (2, *opcode),
         Some([opcode, ..]) => (0, *opcode),
@@ -221,8 +259,8 @@ fn note_opcode(image: &[u8], registers: RegisterCells, tally: &mut Tally) {
     tally.opcodes[page][usize::from(opcode)] += 1;
 }
 
-fn note_trap_22(image: &[u8], registers: RegisterCells, tally: &mut Tally) {
-    let why = match bytes_at(image, registers).map(twin::decode) {
+fn note_trap_22(bytes: Option<&[u8]>, tally: &mut Tally) {
+    let why = match bytes.map(twin::decode) {
         None => 0,
         Some(Err(_)) => 1,
         Some(Ok(_)) => 2,

@@ -3,7 +3,7 @@
 use crate::generator::Generator;
 use crate::program::Case;
 use gate_host::twin::{self, Instruction, Place, Target};
-use gate_host::Limits;
+use gate_host::{Area, Limits};
 
 impl Generator<'_> {
     pub fn damage(&mut self, case: &mut Case) {
@@ -18,7 +18,7 @@ impl Generator<'_> {
         let table = 2 * usize::from(*case.image.get(7).unwrap_or(&0));
         let code = (8 + table).min(case.image.len());
         let length = case.image.len() - code;
-        match self.random.below(22) {
+        match self.random.below(23) {
             0..=3 if length > 0 => {
                 let at = code + self.random.below(length);
                 case.image[at] ^= 1 << self.random.below(8);
@@ -54,7 +54,8 @@ impl Generator<'_> {
             15..=16 => self.retarget(&mut case.image[code..]),
             17..=18 => self.readdress(&case.limits, &mut case.image[code..]),
             19 => self.deepen(&mut case.image[code..]),
-            _ => self.move_limit(&mut case.limits),
+            20..=21 => self.move_limit(&mut case.limits),
+            _ => self.move_second(&mut case.limits),
         }
     }
 
@@ -151,22 +152,40 @@ impl Generator<'_> {
         case.image[at + 2..at + 4].copy_from_slice(&lengths[1].to_be_bytes());
     }
 
+    /// One of the six limits goes elsewhere, most often to where another is.
     fn move_limit(&mut self, limits: &mut Limits) {
-        let Limits { grant_low, grant_high, stack_low, stack_high } = *limits;
+        let Limits { grant, stack, second } = limits;
+        let ends = [*grant, *stack, *second].map(|area| [area.low, area.high]).concat();
         let value = match self.random.below(8) {
             0 => self.random.word(),
             1 => self.random.pick(&[0, 1, 0x00FF, 0x7FFE, 0x7FFF, 0x8000, 0xFFFF]),
-            _ => {
-                let near = self.random.pick(&[grant_low, grant_high, stack_low, stack_high]);
-                near.wrapping_add(self.random.between(0, 4) as u16).wrapping_sub(2)
-            }
+            _ => self.random.pick(&ends).wrapping_add(self.random.between(0, 4) as u16).wrapping_sub(2),
         };
-        match self.random.below(4) {
-            0 => limits.grant_low = value,
-            1 => limits.grant_high = value,
-            2 => limits.stack_low = value,
-            _ => limits.stack_high = value,
+        let area = match self.random.below(3) {
+            0 => grant,
+            1 => stack,
+            _ => second,
+        };
+        if self.random.one_in(2) {
+            area.low = value;
+        } else {
+            area.high = value;
         }
+    }
+
+    /// The second grant comes to meet another area, by one byte or wholly, goes above 7FFF, or becomes none.
+    fn move_second(&mut self, limits: &mut Limits) {
+        let Limits { grant, stack, second } = *limits;
+        let other = self.random.pick(&[grant, stack]);
+        let more = self.random.below(4) as u16;
+        limits.second = match self.random.below(6) {
+            0 => Area { low: other.high, high: other.high.saturating_add(more) },
+            1 => Area { low: other.low.saturating_sub(more), high: other.low },
+            2 => other,
+            3 => Area { low: second.low, high: self.random.pick(&[0x8000, 0xFFFF]) },
+            4 => Area { low: 0x8000, high: 0x8000 + more },
+            _ => self.no_second(grant, stack),
+        };
     }
 }
 

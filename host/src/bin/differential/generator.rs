@@ -1,4 +1,4 @@
-//! Images and limits: routines whose answer is known by construction, noise, and borders of the layout.
+//! Images: routines whose answer is known by construction, noise, and borders of the layout.
 
 use crate::flow;
 use crate::program::{Case, Flaws, Program, Routine};
@@ -41,76 +41,6 @@ pub struct Generator<'a> {
 }
 
 impl<'a> Generator<'a> {
-    // Limits.
-
-    pub fn limits(&mut self) -> Limits {
-        if self.random.one_in(3) {
-            return Limits { grant_low: 0x0000, grant_high: 0x00FF, stack_low: 0x0300, stack_high: 0x03FF };
-        }
-        let stack_bytes = match self.random.below(4) {
-            0 => self.random.between(1, 40),
-            1 => self.random.between(40, 600),
-            _ => self.random.between(600, 9_000),
-        };
-        let grant_bytes = match self.random.below(4) {
-            0 => self.random.between(1, 4),
-            1 => self.random.between(4, 300),
-            _ => self.random.between(300, 15_000),
-        };
-        let gap = if self.random.one_in(3) { 0 } else { self.random.below(2_000) };
-        let grant_first = self.random.one_in(2);
-        // The stack cannot begin at 0.
-        let lowest = usize::from(!grant_first);
-        let highest = 0x8000 - (stack_bytes + gap + grant_bytes);
-        let first = match self.random.below(4) {
-            0 => lowest,
-            1 => highest,
-            _ => self.random.between(lowest, highest),
-        } as u16;
-        let (first_bytes, second_bytes) = if grant_first { (grant_bytes, stack_bytes) } else { (stack_bytes, grant_bytes) };
-        let first_high = first + first_bytes as u16 - 1;
-        let second = first_high + 1 + gap as u16;
-        let second_high = second + second_bytes as u16 - 1;
-        if grant_first {
-            Limits { grant_low: first, grant_high: first_high, stack_low: second, stack_high: second_high }
-        } else {
-            Limits { grant_low: second, grant_high: second_high, stack_low: first, stack_high: first_high }
-        }
-    }
-
-    /// An address on which something may turn.
-    pub fn address(&mut self, limits: &Limits, base: u16, code: usize) -> u16 {
-        let near = [
-            limits.grant_low,
-            limits.grant_high,
-            limits.stack_low,
-            limits.stack_high,
-            0x0000,
-            0x00FF,
-            0x7FFF,
-            0x8000,
-            0xFFFF,
-            base,
-            base.wrapping_add(code as u16),
-        ];
-        match self.random.below(3) {
-            0 => self.random.word(),
-            1 => base.wrapping_add(self.random.below(code + 1) as u16),
-            _ => self.random.pick(&near).wrapping_add(self.random.between(0, 4) as u16).wrapping_sub(2),
-        }
-    }
-
-    /// An address where a store of a byte or a word is just allowed, or just not.
-    pub fn grant_border(&mut self, limits: &Limits) -> u16 {
-        let Limits { grant_low, grant_high, .. } = *limits;
-        let borders = [grant_low.wrapping_sub(1), grant_low, grant_high.wrapping_sub(1), grant_high, grant_high.wrapping_add(1)];
-        if self.random.one_in(8) {
-            0xFFFF
-        } else {
-            self.random.pick(&borders)
-        }
-    }
-
     // Accepted images.
 
     /// An image that the check accepts, unless its need is above the stack area.
@@ -290,21 +220,14 @@ impl<'a> Generator<'a> {
         }
     }
 
-    /// A short address in the grant.
+    /// A short address in a grant.
     fn short(&mut self, limits: &Limits) -> Option<u8> {
-        let highest = limits.grant_high.min(0xFF);
-        (limits.grant_low <= highest).then(|| self.random.between(limits.grant_low.into(), highest.into()) as u8)
+        self.granted(limits, 1, 0x00FF).map(|address| address as u8)
     }
 
-    /// An address at which `bytes` bytes lie in the grant, often at its ends.
+    /// An address at which so many bytes lie in a grant.
     fn direct(&mut self, limits: &Limits, bytes: u16) -> Option<[u8; 2]> {
-        let highest = limits.grant_high.checked_sub(bytes - 1).filter(|&highest| highest >= limits.grant_low)?;
-        let address = match self.random.below(4) {
-            0 => limits.grant_low,
-            1 => highest,
-            _ => self.random.between(limits.grant_low.into(), highest.into()) as u16,
-        };
-        Some(address.to_be_bytes())
+        self.granted(limits, bytes, 0xFFFF).map(u16::to_be_bytes)
     }
 
     /// After JRA or RET: some earlier jump goes to the next instruction, which has that jump's depth.

@@ -4,19 +4,21 @@
 //!
 //! Cases are made until at least N checks were compared, and N single steps that were made. A difference prints the seed, the
 //! case and both answers, and `--seed S --case K` makes that case again. The exit status is 1 where something differs, or where
-//! some answer, or some control flow that W-202 decides on, was never met.
+//! some answer, or something that W-202 or W-205 decides on, was never met, or a second grant in less than half of the cases.
 
 mod compare;
 mod damage;
 mod flow;
 mod generator;
+mod limits;
 mod program;
 mod random;
 
 use compare::{Answers, Compared, Memories, Tally};
 use gate_host::cells::{RegisterCells, FINISHED, OK, SPENT};
-use gate_host::{Limits, MEMORY_BYTES};
+use gate_host::{Area, MEMORY_BYTES};
 use generator::{Generator, Template};
+use limits::Second;
 use program::{Case, Shape};
 use random::Random;
 use std::env;
@@ -65,9 +67,9 @@ fn main() {
         one_case(&options, cases, &templates, &mut tally);
         cases += 1;
     }
-    let missing = print(&options, cases, &templates, &tally);
+    let lacking = print(&options, cases, &templates, &tally);
     println!("{:.1} s", begun.elapsed().as_secs_f64());
-    if missing {
+    if lacking {
         exit(1);
     }
     println!("no difference");
@@ -124,7 +126,8 @@ impl<'a> Trial<'a> {
         let mut make = Generator { random, templates };
         let case = match make.random.below(20) {
             0 => make.border(),
-            1..=4 => make.noise(),
+            1 => make.bordering(),
+            2..=4 => make.noise(),
             5..=6 => make.tangle(),
             7..=9 => make.flawed(),
             _ => make.accepted(),
@@ -135,6 +138,7 @@ impl<'a> Trial<'a> {
     fn whole(&mut self) -> Compared<()> {
         let need = self.check()?;
         self.tally.note_shapes(&self.case);
+        self.tally.note_second(Second::of_limits(&self.case.limits));
         if let Some(need) = need {
             self.cut_stack(need)?;
         }
@@ -166,16 +170,16 @@ impl<'a> Trial<'a> {
 
     /// The stack area is cut to one byte less than the need, which is refused, and to the need, which is accepted.
     fn cut_stack(&mut self, need: u16) -> Compared<()> {
-        let Limits { stack_low, stack_high, .. } = self.case.limits;
-        self.case.limits.stack_low = stack_high - (need - 2);
+        let Area { low, high } = self.case.limits.stack;
+        self.case.limits.stack.low = high - (need - 2);
         let short = self.check()?;
-        self.case.limits.stack_low = stack_high - (need - 1);
+        self.case.limits.stack.low = high - (need - 1);
         let exact = self.check()?;
         if short.is_some() || exact != Some(need) {
             return Err(format!("check: need {need}, but {short:?} with one byte less and {exact:?} with exactly that"));
         }
         if self.make.random.one_in(2) {
-            self.case.limits.stack_low = stack_low;
+            self.case.limits.stack.low = low;
         }
         Ok(())
     }
@@ -260,7 +264,7 @@ impl<'a> Trial<'a> {
 
     /// Any registers, often with SP and PC where something happens; the cells' unused bits may be set.
     fn registers(&mut self) -> RegisterCells {
-        let Limits { stack_low, stack_high, .. } = self.case.limits;
+        let Area { low: stack_low, high: stack_high } = self.case.limits.stack;
         let code = self.case.image.len().saturating_sub(8 + 2 * usize::from(*self.case.image.get(7).unwrap_or(&0)));
         let base = match self.case.image.get(5..7) {
             Some(base) => u16::from_be_bytes([base[0], base[1]]),
@@ -299,7 +303,7 @@ impl<'a> Trial<'a> {
     }
 }
 
-/// Prints the counts, and says whether some answer that a function can give, or some control flow, was never met.
+/// Prints the counts, and says whether something was never met, or second grants too seldom.
 fn print(options: &Options, cases: u64, templates: &[Template], tally: &Tally) -> bool {
     println!("seed {}, {cases} cases", options.seed);
     let mut missing = false;
@@ -312,6 +316,10 @@ fn print(options: &Options, cases: u64, templates: &[Template], tally: &Tally) -
         println!("images with {}: {times}", shape.name());
         missing |= times == 0;
     }
+    for (what, name) in Second::ALL {
+        println!("{name}: {}", tally.times(what));
+        missing |= tally.times(what) == 0;
+    }
     let [pc, bytes, call] = tally.trap_22;
     println!("trap 22 of steps: PC {pc}, bytes {bytes}, call before 10000 {call}");
     println!("steps made in runs: {}", tally.run_steps);
@@ -320,7 +328,11 @@ fn print(options: &Options, cases: u64, templates: &[Template], tally: &Tally) -
     if missing {
         println!("NEVER MET: see the counts of 0 above");
     }
-    missing
+    let seldom = 2 * tally.times(Second::Present) < cases;
+    if seldom {
+        println!("TOO SELDOM MET: less than half of the cases have a second grant");
+    }
+    missing || seldom
 }
 
 /// Prints one function's counts, and says whether one of the numbers that it can answer was never met.

@@ -50,6 +50,13 @@ impl Random {
         (!choices.is_empty()).then(|| self.pick(choices))
     }
 
+    /// Puts `things` in any order.
+    pub fn shuffle<T>(&mut self, things: &mut [T]) {
+        for last in (1..things.len()).rev() {
+            things.swap(last, self.below(last + 1));
+        }
+    }
+
     pub fn fill(&mut self, bytes: &mut [u8]) {
         for chunk in bytes.chunks_mut(8) {
             let random = self.next().to_le_bytes();

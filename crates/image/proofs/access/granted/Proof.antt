@@ -1,5 +1,4 @@
 -- `image::access::granted` meets its contract: the test that led to each return picks the case.
-use borrow.Author.Tests.{le-leb, lt-leb}
 use borrow.Author.Needs.{needs}
 use Rattle.image.specs.Access.{granted}
 use Rattle.image.proofs.access.granted.Statement.{statement}
@@ -7,11 +6,11 @@ use Rattle.image.proofs.access.granted.Tie as tie
 
 returns : tie.Need-returns
 unfolding granted
-returns c = rw (le-leb _ _ (c .before .if1 .taken))
+returns c = rw (← c .before .wholly .ensures, c .if1 .taken)
 
 returns-2 : tie.Need-returns-2
 unfolding granted
-returns-2 c = rw (lt-leb _ _ (c .if1 .left))
+returns-2 c = rw (c .wholly2 .ensures, ← c .before .before .wholly .ensures, c .before .if1 .left)
 
 pub granted-spec : {M : Type 1} → statement M
-granted-spec = tie.close (tie.spec (λ c. search needs) (λ c. search needs) (λ c. search needs) returns returns-2)
+granted-spec = tie.close (tie.spec (λ c κs. search needs) (λ c κs. search needs) returns returns-2)

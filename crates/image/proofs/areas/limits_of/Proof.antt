@@ -6,11 +6,7 @@ use Rattle.image.proofs.areas.limits_of.Tie as tie
 
 returns : tie.Need-returns
 unfolding limitsOf
-returns c =
-    let c2 = c .before .before in
-    rw (c .word-at4 .ensures, c .before .word-at3 .ensures, c2 .word-at2 .ensures, c2 .before .word-at .ensures)
+returns c = rw (c .area-at3 .ensures, c .before .area-at2 .ensures, c .before .before .area-at .ensures)
 
 pub limits-of-spec : {M : Type 1} → statement M
-limits-of-spec =
-    tie.close
-    (tie.spec (λ c κs. search needs) (λ c κs. search needs) (λ c κs. search needs) (λ c κs. search needs) returns)
+limits-of-spec = tie.close (tie.spec (λ c κs. search needs) (λ c κs. search needs) (λ c κs. search needs) returns)
