@@ -9,11 +9,14 @@
  * FFFFFF is in no code, so a step that is not refused traps 22 there (21 where SP is out of its range too) and leaves the cell as
  * it was. No step that is made leaves PC above 01007F.
  *
+ * An image is SLU of version 0001 or 0002. The two have the same layout, and 0002 leaves CALLR out of the set: its operand is a
+ * distance, so it breaks when tools move routines. All else is the same in both.
+ *
  * Every function is re-entrant: the library keeps nothing between calls and writes no cell but those of its arguments and the
  * caller's stack. Calls may go on at the same time, in threads or in an interrupt, if no cell that one of them writes is an
  * argument of another; an image and limits, which are only read, may be shared.
  *
- * gate_check and gate_start take some 81 KiB of the caller's stack, whatever the image (82,992 bytes at most were measured): a
+ * gate_check and gate_start take some 81 KiB of the caller's stack, whatever the image (83,024 bytes at most were measured): a
  * check's arrays, of a few numbers about each code byte, have 81,920 bytes. No other function takes 4 KiB (3,384 bytes measured).
  *
  * The library is for x86-64 with the System V calling convention. A slice is passed as two arguments, the address of its first cell
@@ -33,12 +36,12 @@ enum gate_number {
     GATE_OK = 0,                    /* accepted, started, made, decoded */
     GATE_LIMITS = 1,                /* limits break a rule of struct gate_limits */
     GATE_NOT_SLU = 2,               /* under 8 bytes, or not SLU */
-    GATE_VERSION = 3,               /* version not 0001 */
+    GATE_VERSION = 3,               /* version neither 0001 nor 0002 */
     GATE_LAYOUT = 4,                /* another rule of the layout is broken */
     GATE_MARKS = 5,                 /* fewer marks than code bytes */
     GATE_UNREACHED = 6,             /* a start is not reached */
     GATE_DEPTHS_DISAGREE = 7,       /* depths disagree */
-    GATE_OUTSIDE = 8,               /* outside the set */
+    GATE_OUTSIDE = 8,               /* outside the set; in an image of version 0002 CALLR too */
     GATE_TRUNCATED = 9,             /* the bytes end too soon */
     GATE_INTO_INSTRUCTION = 10,     /* a jump into an instruction */
     GATE_DEPTH_RANGE = 11,          /* depth leaves 0 to 255, or RET above 0 */
@@ -50,7 +53,7 @@ enum gate_number {
     GATE_MEMORY = 17,               /* the memory is not 32,768 bytes */
     GATE_TRAP_SP = 21,              /* SP is not from stack low - 1 to stack high */
     GATE_TRAP_PC = 22,              /* PC is not in the code, or the bytes run out */
-    GATE_TRAP_OUTSIDE = 23,         /* outside the set */
+    GATE_TRAP_OUTSIDE = 23,         /* outside the set; in version 0002 CALLR too */
     GATE_TRAP_STACK = 24,           /* SP would leave its range */
     GATE_TRAP_STORE = 25,           /* a direct store not wholly in a grant, or an SP store outside SP + 1 to stack high */
     GATE_FINISHED = 64,             /* a step that began at PC 0; a run that reached it */
@@ -131,7 +134,8 @@ uint8_t gate_run(const uint8_t *image, size_t image_length,
                  uint32_t registers[GATE_REGISTERS],
                  uint32_t budget, uint32_t steps[1]);
 
-/* Decodes the instruction at the front of bytes. The answer is 0, 8 (outside the set) or 9 (the bytes end too soon).
+/* Decodes the instruction at the front of bytes. The answer is 0, 8 (outside the set) or 9 (the bytes end too soon). Loose bytes
+ * have no version: the set is the whole one, CALLR included.
  * length: the instruction's bytes, 0 where there is none. text: the instruction as it stands at address, in the manual's
  * assembler notation, and 0 in every cell after it; all 0 where there is none. */
 uint8_t gate_decode(const uint8_t *bytes, size_t bytes_length, uint16_t address,

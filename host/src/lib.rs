@@ -69,7 +69,8 @@ pub fn run(image: &[u8], limits: &Limits, memory: &mut [u8], registers: &mut Reg
     Ok(Run { ending, steps: steps[0] })
 }
 
-/// Decodes the instruction at the front of `bytes`; its text is that of the instruction as it stands at `address`.
+/// Decodes the instruction at the front of `bytes`, which are of no image: by the whole set, CALLR included. Its text is that of
+/// the instruction as it stands at `address`.
 pub fn decode(bytes: &[u8], address: u16) -> Result<Decoded, Refusal> {
     let mut text = [0; TEXT_BYTES];
     let mut length = [0];

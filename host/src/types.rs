@@ -54,7 +54,7 @@ pub enum Refusal {
     Limits = 1,
     /// Under 8 bytes, or not SLU.
     NotSlu = 2,
-    /// The version is not 0001.
+    /// The version is neither 0001 nor 0002.
     Version = 3,
     /// Another rule of the layout is broken.
     Layout = 4,
@@ -64,7 +64,7 @@ pub enum Refusal {
     Unreached = 6,
     /// Depths disagree.
     DepthsDisagree = 7,
-    /// Outside the set.
+    /// Outside the set; in an image of version 0002 CALLR too.
     Outside = 8,
     /// The bytes end too soon.
     Truncated = 9,
@@ -126,7 +126,7 @@ pub enum Trap {
     Sp = 21,
     /// PC is not in the code, or the bytes run out.
     Pc = 22,
-    /// Outside the set.
+    /// Outside the set; in version 0002 CALLR too.
     Outside = 23,
     /// SP would leave its range.
     Stack = 24,

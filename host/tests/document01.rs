@@ -1,18 +1,14 @@
-//! Document 01's own examples, as W-202 and W-205 have them, and what a careless reader of these gets wrong, through the library
-//! and through the twin.
+//! Document 01's own examples, as W-202, W-205 and W-212 have them, and what a careless reader of these gets wrong, through the
+//! library and through the twin. Tables and steps are tried in either version, for none of them has CALLR.
 
-use gate_host::{
-    slu, twin, Accepted, Area, Ending, Limits, Refusal, Refused, Registers, Run, Step, Trap, MARKS_ENOUGH, MEMORY_BYTES,
-};
+mod both;
 
-const LIMITS: Limits =
-    Limits { grant: Area { low: 0x0000, high: 0x00FF }, stack: Area { low: 0x0300, high: 0x03FF }, second: Area::NONE };
+use both::{accepted, assembled, check, check_and_marks, refused, BEGIN, BLANK, LIMITS};
+use gate_host::{slu, twin, Area, Ending, Limits, Refusal, Registers, Run, Step, Trap, MARKS_ENOUGH, MEMORY_BYTES};
+
 /// A second grant in data EEPROM.
 const TRIM: Limits = Limits { second: Area { low: 0x4000, high: 0x401F }, ..LIMITS };
-/// What a mark holds before a check.
-const BLANK: u16 = 0xA5A5;
-
-type Verdict = Result<Accepted, Refused>;
+const VERSIONS: [u16; 2] = [1, 2];
 
 fn stack_from(low: u16) -> Limits {
     Limits { stack: Area { low, ..LIMITS.stack }, ..LIMITS }
@@ -25,82 +21,43 @@ fn grants(first: (u16, u16), second: (u16, u16)) -> Limits {
 }
 
 fn image(routines: &[&[u8]]) -> Vec<u8> {
-    slu::image_of(0x8000, routines)
-}
-
-/// The image of routines in hexadecimal, with | between two.
-fn assembled(routines: &str) -> Vec<u8> {
-    let byte = |digits| u8::from_str_radix(digits, 16).expect("hexadecimal");
-    let routines: Vec<Vec<u8>> = routines.split('|').map(|code| code.split_whitespace().map(byte).collect()).collect();
-    slu::image_of(0x8000, &routines)
-}
-
-/// Both verdicts on an image, which must agree, marks included, and the marks.
-fn check_and_marks(file: &[u8], limits: &Limits, marks: usize) -> (Verdict, Vec<u16>) {
-    let (mut one, mut other) = (vec![BLANK; marks], vec![BLANK; marks]);
-    let verdict = gate_host::check(file, limits, &mut one);
-    assert_eq!(verdict, twin::check(file, limits, &mut other), "{file:02X?}");
-    assert_eq!(one, other, "{file:02X?}");
-    if let Err(Refused { refusal, .. }) = verdict {
-        // After 6 to 16 the code's marks are 0; every other is as it was.
-        let code = if refusal.number() < 6 { 0 } else { twin::Image::parse(file).expect("a good layout").code.len() };
-        assert!(one[..code].iter().all(|&mark| mark == 0) && one[code..].iter().all(|&mark| mark == BLANK), "{file:02X?}");
-    }
-    (verdict, one)
-}
-
-fn check(file: &[u8], limits: &Limits, marks: usize) -> Verdict {
-    check_and_marks(file, limits, marks).0
-}
-
-fn refused(number: u8, offset: u16) -> Verdict {
-    Err(Refused { refusal: Refusal::from_number(number).expect("1 to 17"), offset })
-}
-
-fn accepted(need: u16, count: u16) -> Verdict {
-    Ok(Accepted { need, count })
+    slu::image_of(1, 0x8000, routines)
 }
 
 /// Routines, and the number and offset that they are refused with.
 fn all_refused(table: &[(&str, u8, u16)]) {
-    for &(routines, number, offset) in table {
-        assert_eq!(check(&assembled(routines), &LIMITS, MARKS_ENOUGH), refused(number, offset), "{routines}");
+    for (&(routines, number, offset), version) in table.iter().flat_map(|row| VERSIONS.map(|version| (row, version))) {
+        let verdict = check(&assembled(version, routines), &LIMITS, MARKS_ENOUGH);
+        assert_eq!(verdict, refused(number, offset), "{routines} in version {version}");
     }
 }
 
 /// Routines that are accepted, and their need and count.
 fn all_accepted(table: &[(&str, u16, u16)]) {
-    for &(routines, need, count) in table {
-        assert_eq!(check(&assembled(routines), &LIMITS, MARKS_ENOUGH), accepted(need, count), "{routines}");
+    for (&(routines, need, count), version) in table.iter().flat_map(|row| VERSIONS.map(|version| (row, version))) {
+        let verdict = check(&assembled(version, routines), &LIMITS, MARKS_ENOUGH);
+        assert_eq!(verdict, accepted(need, count), "{routines} in version {version}");
     }
 }
 
-/// Both steps from the same state, which must agree.
+/// A step that is not refused, and is the same in either version.
 fn step_under(limits: &Limits, code: &[u8], registers: Registers, memory: &[u8]) -> (Step, Registers, Vec<u8>) {
-    let file = image(&[code]);
-    let (mut one, mut other) = (memory.to_vec(), memory.to_vec());
-    let (mut after, mut twin_after) = (registers, registers);
-    let answer = gate_host::step(&file, limits, &mut one, &mut after);
-    assert_eq!(answer, twin::step(&file, limits, &mut other, &mut twin_after));
-    assert_eq!(after, twin_after);
-    assert!(one == other);
-    (answer.expect("not refused"), after, one)
+    let [first, second] = VERSIONS.map(|version| both::step(&slu::image_of(version, 0x8000, &[code]), limits, registers, memory));
+    assert!(first == second, "{code:02X?}");
+    let (answer, after, left) = first;
+    (answer.expect("not refused"), after, left)
 }
 
 fn step(code: &[u8], registers: Registers, memory: &[u8]) -> (Step, Registers, Vec<u8>) {
     step_under(&LIMITS, code, registers, memory)
 }
 
-const BEGIN: Registers = Registers { a: 0, x: 0, y: 0, cc: 0, sp: 0x03FD, pc: 0x8000 };
-
 #[test]
 fn refusals_of_the_table() {
     let ret = image(&[&[0x81]]);
     assert_eq!(check(&ret, &stack_from(0x0000), 1), refused(1, 0));
     assert_eq!(check(&[0x53, 0x4C], &LIMITS, 1), refused(2, 0));
-    let mut second = ret.clone();
-    second[4] = 2;
-    assert_eq!(check(&second, &LIMITS, 1), refused(3, 0));
+    assert_eq!(check(&assembled(3, "81"), &LIMITS, 1), refused(3, 0));
     assert_eq!(check(b"SLU\x00\x01\x80\x00\x00", &LIMITS, 1), refused(4, 0));
     assert_eq!(check(&image(&[&[0x9D, 0x9D, 0x81]]), &LIMITS, 2), refused(5, 0));
     all_refused(&[
@@ -131,7 +88,7 @@ fn need_and_count() {
     assert_eq!((verdict, &marks[..]), (accepted(3, 3), &[1, 2, 1, BLANK][..]));
     // A depth of 255 is allowed.
     let deep = stack_from(0x0200);
-    let (verdict, marks) = check_and_marks(&assembled("52 FF 5B FF 81"), &deep, 5);
+    let (verdict, marks) = check_and_marks(&assembled(1, "52 FF 5B FF 81"), &deep, 5);
     assert_eq!((verdict, &marks[..]), (accepted(257, 3), &[1, 0, 256, 0, 1][..]));
     all_accepted(&[
         // A call leaves the depth as it is.
@@ -182,7 +139,7 @@ fn order_of_the_refusals() {
     ]);
     // 16 comes last of all.
     let none = stack_from(0x03FF);
-    assert_eq!(check(&assembled("81 | 84 81"), &none, 3), refused(11, 1));
+    assert_eq!(check(&assembled(1, "81 | 84 81"), &none, 3), refused(11, 1));
 }
 
 /// W-202: a routine is tested wholly before the next one, and offsets count over the whole code.
@@ -201,9 +158,7 @@ fn one_routine_after_the_other() {
         ("81 | 20 FD", 13, 1),
         ("CD 80 04 81 | 81", 14, 0),
         ("9D 81 | CD 80 01 81", 14, 2),
-        ("81 | AD FE 81", 14, 1),
     ]);
-    all_accepted(&[("81 | AD FD 81", 4, 3)]);
 }
 
 #[test]
@@ -259,10 +214,10 @@ fn stores() {
 
 #[test]
 fn loops_tested_at_the_bottom() {
-    let (verdict, marks) = check_and_marks(&assembled("20 01 4A 26 FD 81"), &LIMITS, 7);
+    let (verdict, marks) = check_and_marks(&assembled(1, "20 01 4A 26 FD 81"), &LIMITS, 7);
     assert_eq!((verdict, &marks[..]), (accepted(2, 4), &[1, 0, 1, 1, 0, 1, BLANK][..]));
     // The test pushes and the body pops.
-    let (verdict, marks) = check_and_marks(&assembled("20 02 84 9D 88 26 FB 84 81"), &LIMITS, 9);
+    let (verdict, marks) = check_and_marks(&assembled(1, "20 02 84 9D 88 26 FB 84 81"), &LIMITS, 9);
     assert_eq!((verdict, &marks[..]), (accepted(3, 7), &[1, 0, 2, 1, 1, 2, 0, 2, 1][..]));
     all_accepted(&[
         // A call in the body.
@@ -495,7 +450,7 @@ fn order_of_a_bad_second_grant() {
 /// Each kind of direct store may go to either grant, and to no other place.
 #[test]
 fn direct_stores_of_every_kind() {
-    let verdict = |limits: &Limits, code: &str| check(&assembled(code), limits, MARKS_ENOUGH);
+    let verdict = |limits: &Limits, code: &str| check(&assembled(1, code), limits, MARKS_ENOUGH);
     let bits = ["72 1E 40 1F 81", "72 1F 40 1F 81", "90 1E 40 1F 81", "90 1F 40 1F 81"];
     let bytes = ["C7 40 1F 81", "72 5C 40 1F 81", "35 05 40 1F 81", "55 00 00 40 1F 81"];
     let words = ["CF 40 1E 81", "90 CF 40 1E 81"];

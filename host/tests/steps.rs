@@ -30,7 +30,7 @@ fn cells(bytes: &[u8]) -> impl Iterator<Item = (usize, u8)> + '_ {
 }
 
 fn image_of(record: &[u8]) -> Vec<u8> {
-    slu::image_of(word(&record[15..]), &[&record[1..1 + usize::from(record[0])]])
+    slu::image_of(1, word(&record[15..]), &[&record[1..1 + usize::from(record[0])]])
 }
 
 #[test]

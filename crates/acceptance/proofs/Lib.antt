@@ -23,3 +23,4 @@ pub mod Outcomes
 pub mod CheckFunction
 pub mod Accepting
 pub mod EveryCheck
+pub mod Versions

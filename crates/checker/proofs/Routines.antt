@@ -13,7 +13,7 @@ use Rattle.image.specs.Validation.{validated}
 use Rattle.image.specs.declared.Limits.{Limits}
 use Rattle.image.specs.declared.Layout.{Layout}
 use Rattle.image.specs.declared.Validated.the-variants.{Valid}
-use Rattle.image.proofs.Layouts.{valid-bounds, base-is, count-is, size-is}
+use Rattle.image.proofs.Layouts.{valid-bounds, version-is, base-is, count-is, size-is}
 use Rattle.image.proofs.Measuring.{start-zero, start-next, start-inside, end-inside}
 use Rattle.image.proofs.Validity.{valid-rules}
 use Rattle.code.specs.Code.{Start}
@@ -64,13 +64,14 @@ module _ (image : List ℕ) (limits : Limits) (layout : Layout) (index : ℕ) (v
 -- the next routine of a valid image
 pub routine-of : {image : List ℕ} {limits : Limits} {layout : Layout} {index start end : ℕ} → validated image limits ≡ Valid layout →
     index < layout .count → start ≡ startOf image index → end ≡ endOf image index →
-    RoutineOf image (record { index = index; start = start; end = end; base = layout .base; limits = limits })
+    RoutineOf image (record { index = index; start = start; end = end; version = layout .version; base = layout .base; limits = limits })
 routine-of {image} {limits} {layout} {index} valid below start-is end-is =
     let b = valid-bounds image limits layout valid in
     let rules = valid-rules image limits layout valid .1 in
     record {
       layout = rules;
       inside = omega (arith, count-is image limits layout valid);
+      version-is = version-is image limits layout valid;
       base-is = base-is image limits layout valid;
       start-is = start-is;
       end-is = end-is;

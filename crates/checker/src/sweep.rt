@@ -61,6 +61,7 @@ fn routine_at(
         index,
         start,
         end,
+        version: layout.version,
         base: layout.base,
         limits,
     }

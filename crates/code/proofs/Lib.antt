@@ -1,4 +1,6 @@
+pub mod Allowed
 pub mod Sets
+pub mod Tables
 pub mod Parts
 pub mod Starts
 pub mod StartList

@@ -1,6 +1,6 @@
 -- The starts of a routine lie inside it, one after the other: none inside an instruction.
 use Prim.Native.Nat.{ℕ, _+_, _-_, _<_, _≤_}
-use mathlib.Core.Path.{_≡_, sym, ap, _∙_}
+use mathlib.Core.Path.{_≡_, ap, _∙_}
 use mathlib.Core.Logic.{by-cases}
 use mathlib.Core.List.{List}
 use native.Mathlib.Decide.{ℕ-discrete, decLt}
@@ -9,14 +9,14 @@ use lib.ListN.{take, drop, length-take}
 use lib.Seq.{take-add}
 use Rattle.numbers.specs.Lists.{Bytes}
 use Rattle.numbers.proofs.Bytes.{bytes-taken, bytes-dropped}
-use Rattle.stm8.specs.Decoding.{decoded}
 use Rattle.stm8.specs.declared.Instruction.{Instruction}
 use Rattle.stm8.specs.declared.Decoded.{Decoded}
 use Rattle.stm8.specs.declared.Decoded.the-variants.{Found}
 use Rattle.stm8.proofs.Longer.{found-within, longer}
 use Rattle.image.specs.Image.{versionOf, codeOf, sizeOf, startOf, endOf}
+use Rattle.code.specs.Set.{decodedFor}
 use Rattle.code.specs.Code.{decodedAt, instructionAt, instructionIn, Start, begins, follows}
-use Rattle.code.proofs.Sets.{decoded-for}
+use Rattle.code.proofs.Sets.{found-in-set, set-has}
 
 -- bytes are one instruction, of one length
 pub same-found : {x : Decoded} {i i′ : Instruction} {n n′ : ℕ} → x ≡ Found i n → x ≡ Found i′ n′ → (i ≡ i′) × (n ≡ n′)
@@ -28,14 +28,14 @@ module _ (image : List ℕ) where
   unfolding decodedAt
   found-before end o {n} {i} f =
       let part = take (end - o) (drop o (codeOf image)) in
-      let within = found-within part i n (sym (decoded-for (versionOf image) part) ∙ f) in
+      let within = found-within part i n (found-in-set (versionOf image) i n part f .0) in
       (within .0, omega (arith, within, length-take (end - o) (drop o (codeOf image))))
 
   pub found-short : (end o : ℕ) {n : ℕ} {i : Instruction} → decodedAt image end o ≡ Found i n → n ≤ 5
   unfolding decodedAt
   found-short end o {n} {i} f =
       let part = take (end - o) (drop o (codeOf image)) in
-      found-within part i n (sym (decoded-for (versionOf image) part) ∙ f) .1
+      found-within part i n (found-in-set (versionOf image) i n part f .0) .1
 
   -- more bytes after it do not change it
   pub found-longer : Bytes (codeOf image) → (end end′ o : ℕ) {n : ℕ} {i : Instruction} → end ≤ end′ →
@@ -46,10 +46,11 @@ module _ (image : List ℕ) where
       let code = drop o (codeOf image) in
       let part = take (end - o) code in
       let split : end′ - o ≡ (end - o) + (end′ - o - (end - o)) = omega arith in
-      let f′ = longer part i n (sym (decoded-for v part) ∙ f) (bytes-taken (end - o) code (bytes-dropped o (codeOf image) bytes)) in
-      decoded-for v (take (end′ - o) code) ∙
-      ap (λ m. decoded (take m code)) split ∙
-      ap decoded (take-add (end - o) (end′ - o - (end - o)) code) ∙ f′ (take (end′ - o - (end - o)) (drop (end - o) code))
+      let here = found-in-set v i n part f in
+      let more = longer part i n (here .0) (bytes-taken (end - o) code (bytes-dropped o (codeOf image) bytes)) in
+      ap (λ m. decodedFor v (take m code)) split ∙
+      ap (decodedFor v) (take-add (end - o) (end′ - o - (end - o)) code) ∙
+      set-has v i n _ (more (take (end′ - o - (end - o)) (drop (end - o) code))) (here .1)
 
 module _ (image : List ℕ) (r : ℕ) where
   pub found-inside : (o : ℕ) {n : ℕ} {i : Instruction} → instructionAt image r o ≡ Found i n → (0 < n) × (o + n ≤ endOf image r)

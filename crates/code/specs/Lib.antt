@@ -2,3 +2,4 @@ pub mod Set
 pub mod Code
 pub mod Depth
 pub mod Instructions
+pub mod Internal

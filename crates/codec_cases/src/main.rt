@@ -1,5 +1,6 @@
 // Runs the codec at the borders of the gate set, a line a case: instructions to encode, with the number, the length and the five bytes; loose bytes to
 // decode, by the map's own lengths and by lent tables, with the number and the length. A number is 0 where there is an instruction.
+use code::lengths_of;
 use libc::STDOUT_FILENO;
 use stm8::AluOp;
 use stm8::BitOp;
@@ -131,17 +132,31 @@ fn outside_the_set() {
     decode(b"72 BB", b"\x72\xBB");
 }
 
-// A table can leave an op-code out, and has the last word on a length; an op-code that the map has not it cannot put in.
+// Of the versions, 0002 leaves CALLR out.
+fn by_version() {
+    let first = lengths_of(1);
+    decode_by(b"AD 05 by the tables of version 0001", b"\xAD\x05", &first);
+    decode_by(b"AD by the tables of version 0001", b"\xAD", &first);
+    let second = lengths_of(2);
+    decode_by(b"AD 05 by the tables of version 0002", b"\xAD\x05", &second);
+    decode_by(b"AD by the tables of version 0002", b"\xAD", &second);
+    decode_by(
+        b"CD 80 00 by the tables of version 0002",
+        b"\xCD\x80\x00",
+        &second,
+    );
+    decode_by(b"A6 AD by the tables of version 0002", b"\xA6\xAD", &second);
+}
+
+// A table has the last word on a length, and can leave an op-code out; one that the map has not it cannot put in.
 fn by_tables() {
     let mut lengths = stm8::map_lengths();
-    decode_by(b"AD 05 by the map's tables", b"\xAD\x05", &lengths);
-    decode_by(b"AD by the map's tables", b"\xAD", &lengths);
     let mut plain = lengths[0];
-    plain[0xAD] = 0;
+    plain[0x9D] = 0;
     plain[0xA6] = 3;
     plain[0x8E] = 1;
     lengths[0] = plain;
-    decode_by(b"AD by a table without it", b"\xAD", &lengths);
+    decode_by(b"9D by a table without it", b"\x9D", &lengths);
     decode_by(b"A6 05 by a table with 3 for it", b"\xA6\x05", &lengths);
     decode_by(b"8E by a table with it", b"\x8E", &lengths);
 }
@@ -151,5 +166,6 @@ fn main() {
     forms();
     too_few_bytes();
     outside_the_set();
+    by_version();
     by_tables();
 }

@@ -3,7 +3,7 @@ use Prim.Native.Nat.{ℕ, _≤_, _<_}
 use mathlib.Core.Path.{_≡_}
 use mathlib.Core.List.{List}
 use lib.ListN.{length}
-use Rattle.image.specs.Image.{baseOf, countOf, codeOf, startOf, endOf}
+use Rattle.image.specs.Image.{versionOf, baseOf, countOf, codeOf, startOf, endOf}
 use Rattle.image.specs.Lengths.{Begins}
 use Rattle.image.specs.Rules.{ImageRules}
 use Rattle.rules.specs.Refusal.{CodeFault, Lowest}
@@ -16,6 +16,7 @@ use Rattle.decode_pass.specs.declared.Routine.{Routine}
 pub record RoutineOf (image : List ℕ) (r : Routine) : Type 0 where
   pub layout : ImageRules image
   pub inside : r .index < countOf image
+  pub version-is : r .version ≡ versionOf image
   pub base-is : r .base ≡ baseOf image
   pub start-is : r .start ≡ startOf image (r .index)
   pub end-is : r .end ≡ endOf image (r .index)

@@ -48,7 +48,7 @@ fn decode_start(code: &[u8], begins: &[u16; 32], r: Routine, at: usize) -> Decod
     ensures { λ d. ⌜ ((image : List ℕ) → Given image (now (code .entry)) (now (begins .entry)) r → Start image (r .index) at →
         StartDecoded image r at (d .refusal) (d .next) (d .row)) ⌝ }
 {
-    let d = decode_at(code, at, r.end);
+    let d = decode_at(r.version, code, at, r.end);
     let Decoded::Found(i, n) = d else {
         return refused_start(decoding_number(d));
     };

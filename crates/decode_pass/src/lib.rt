@@ -9,11 +9,12 @@ ghost use Rattle.decode_pass.specs.Pass.{Given, NoStarts, RoutineDecoded
 use crate::decoding::decode_starts;
 use image::Limits;
 
-// A routine: its place in the table, the offsets of its first byte and past its last, the base address, and the limits.
+// A routine: its place in the table, the offsets of its first byte and past its last, the image's version and base address, and the limits.
 pub struct Routine {
     pub index: usize,
     pub start: usize,
     pub end: usize,
+    pub version: u16,
     pub base: u16,
     pub limits: Limits,
 }

@@ -4,7 +4,7 @@ use mathlib.Core.Path.{_≡_, refl, subst, sym, ap, _∙_}
 use mathlib.Core.List.{List}
 use native.Mathlib.Nat.{mod-eq-of-lt}
 use native.Mathlib.Omega.{arith}
-use Rattle.image.specs.Image.{baseOf, countOf, codeAt, sizeOf, layoutOf, startOf, endOf, mainOf}
+use Rattle.image.specs.Image.{versionOf, baseOf, countOf, codeAt, sizeOf, layoutOf, startOf, endOf, mainOf}
 use Rattle.image.specs.Lengths.{BeginsTo16, Begins}
 use Rattle.image.specs.Validation.{validated}
 use Rattle.image.specs.Rules.{LimitsRules, ImageRules}
@@ -53,6 +53,10 @@ module _ (image : List ℕ) (limits : Limits) (layout : Layout) (valid : validat
 
   pub valid-limits : LimitsRules limits
   valid-limits = valid-rules image limits layout valid .0
+
+  pub version-is : layout .version ≡ versionOf image
+  unfolding layoutOf
+  version-is = ap (λ (l : Layout). l .version) (valid-layout image limits layout valid)
 
   pub base-is : layout .base ≡ baseOf image
   unfolding layoutOf

@@ -55,4 +55,4 @@ module _ {low high : ℕ} (four : Listed low high 4) where
 pub validation-number : (image : List ℕ) (limits : Limits) → Validating (refusal image limits)
 unfolding refusal versionCheck firstIn
 validation-number image limits =
-    limits-numbered limits then mark-numbered image then differ-numbered 3 refl _ _ then layout-numbered refl _ _ _ then pass
+    limits-numbered limits then mark-numbered image then unless-numbered 3 refl _ then layout-numbered refl _ _ _ then pass

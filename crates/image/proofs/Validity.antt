@@ -9,12 +9,12 @@ use lib.Dec.{eqb, ltb}
 use lib.ListN.{length, take}
 use borrow.Author.Tests.{eqb-true, eqb-false, eq-eqb, ne-eqb, ltb-true, ltb-false, lt-ltb, le-ltb}
 use Rattle.numbers.specs.Ascii.{ascii}
-use Rattle.numbers.specs.Checks.{first, differ}
+use Rattle.numbers.specs.Checks.{first, differ, unless}
 use Rattle.numbers.specs.Folds.{firstIn}
 use Rattle.numbers.proofs.Checking.{by-cond, by-test, first-zero, under-zero, under-pass, differ-zero, differ-pass, unless-zero, unless-pass}
 use Rattle.numbers.proofs.Folding.{passed, passed-at, pass-at, _&_}
 use Rattle.numbers.proofs.Comparing.{same-refl, same-true}
-use Rattle.image.specs.Image.{baseOf, countOf, lengthsOf, lengthAt, codeAt, codeOf, sizeOf, layoutOf}
+use Rattle.image.specs.Image.{versionOf, baseOf, countOf, lengthsOf, lengthAt, codeAt, codeOf, sizeOf, layoutOf}
 use Rattle.image.specs.Validation.{areaCheck, apart, secondCheck, limitsCheck, markCheck, versionCheck, lengthCheck, lengthsCheck, headerCheck, layoutCheck, refusal, answer, validated, validationNumber}
 use Rattle.image.specs.Rules.{Apart, AreaRules, Present, SecondRules, LimitsRules, ImageRules}
 use Rattle.image.specs.declared.Area.{Area}
@@ -157,16 +157,24 @@ module _ (image : List ℕ) where
       first-then _ (λ h.
       differ-alike _ _ _ _ 4 (λ e. omega (arith, code-length image), λ e. omega (arith, code-length image, code-some h)))
 
+  version-rule : versionCheck image ≡ 0 → (versionOf image ≡ 0x0001) ⊎ (versionOf image ≡ 0x0002)
+  unfolding versionCheck
+  version-rule e =
+      by-cond (eqb (versionOf image) 0x0001)
+      (λ t k. inl (eqb-true _ _ t))
+      (λ t k. inr (eqb-true _ _ k))
+      (unless-zero _ 2 e)
+
   image-rules : markCheck image ≡ 0 → versionCheck image ≡ 0 →
       layoutCheck (baseOf image) (lengthsOf image) (length (codeOf image)) ≡ 0 → ImageRules image
-  unfolding versionCheck layoutCheck headerCheck sizeOf
+  unfolding layoutCheck headerCheck sizeOf
   image-rules m v l =
       let h = first-zero _ _ l in
       let p = passed _ (h .0) in
       let q = p .1 .1 .1 in
       record {
         mark = mark-rule m;
-        version = differ-zero _ _ 2 v;
+        version = version-rule v;
         count = (omega (arith, lengths-count image, under-zero _ _ 3 (p .0)), omega (arith, lengths-count image, under-zero _ _ 3 (p .1 .0)));
         lengths = lengths-rule (p .1 .1 .0);
         code = under-zero _ _ 3 (q .0);
@@ -175,9 +183,10 @@ module _ (image : List ℕ) where
         end = omega (arith, code-length image, code-some (h .0), differ-zero _ _ 3 (h .1));
       }
 
-  version-pass : ImageRules image → versionCheck image ≡ 0
-  unfolding versionCheck
-  version-pass h = differ-pass _ _ 3 (h .version)
+  version-pass : (versionOf image ≡ 0x0001) ⊎ (versionOf image ≡ 0x0002) → versionCheck image ≡ 0
+  unfolding versionCheck unless
+  version-pass (inl first) = rw first
+  version-pass (inr second) = rw second
 
   layout-pass : ImageRules image → layoutCheck (baseOf image) (lengthsOf image) (length (codeOf image)) ≡ 0
   unfolding layoutCheck headerCheck sizeOf firstIn
@@ -234,7 +243,7 @@ module _ (image : List ℕ) (limits : Limits) where
   unfolding validated refusal firstIn
   rules-valid l h =
       let passes : refusal image limits ≡ 0 =
-      limits-pass limits l & mark-pass image (header-whole image h) (h .mark) & version-pass image h & layout-pass image h & refl in
+      limits-pass limits l & mark-pass image (header-whole image h) (h .mark) & version-pass image (h .version) & layout-pass image h & refl in
       rw passes
 
   pub valid-exactly : (validated image limits ≡ Valid (layoutOf image)) ↔ (LimitsRules limits × ImageRules image)

@@ -40,7 +40,7 @@ unfoldable pub sizeOf : List ℕ → ℕ
 sizeOf image = total (lengthsOf image)
 
 unfoldable pub layoutOf : List ℕ → Layout
-layoutOf image = record { base = baseOf image; count = countOf image; code = codeAt image; size = sizeOf image }
+layoutOf image = record { version = versionOf image; base = baseOf image; count = countOf image; code = codeAt image; size = sizeOf image }
 
 -- Routines lie in table order: where routine k begins and ends, as offsets from the first code byte;
 unfoldable pub startOf : List ℕ → ℕ → ℕ

@@ -1,6 +1,7 @@
--- The rules of limits and images, as document 01 and W-205 state them.
+-- The rules of limits and images, as document 01, W-205 and W-212 state them.
 use Prim.Native.Nat.{ℕ, _+_, _<_, _≤_}
 use mathlib.Core.Path.{_≡_}
+use mathlib.Core.Logic.{_⊎_}
 use mathlib.Core.List.{List}
 use lib.ListN.{length, take}
 use Rattle.numbers.specs.Ascii.{ascii}
@@ -40,11 +41,11 @@ pub record LimitsRules (limits : Limits) : Type 0 where
   pub apart : Apart (limits .grant) (limits .stack)
   pub second : Present (limits .second) → SecondRules limits
 
--- the three letters SLU, then version 0001; count is 1 to 32, each length at least 1, code at most 4,096 bytes, base at least 8000,
+-- the three letters SLU, then version 0001 or 0002; count is 1 to 32, each length at least 1, code at most 4,096 bytes, base at least 8000,
 -- base plus code at most 10000; the file ends with the code
 pub record ImageRules (image : List ℕ) : Type 0 where
   pub mark : take 3 image ≡ ascii "SLU"
-  pub version : versionOf image ≡ 0x0001
+  pub version : (versionOf image ≡ 0x0001) ⊎ (versionOf image ≡ 0x0002)
   pub count : (1 ≤ countOf image) × (countOf image ≤ 32)
   pub lengths : (k : ℕ) → k < countOf image → 1 ≤ lengthAt image k
   pub code : sizeOf image ≤ 4096

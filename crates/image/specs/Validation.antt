@@ -53,9 +53,12 @@ limitsCheck limits =
 unfoldable pub markCheck : List ℕ → ℕ
 markCheck image = firstIn (under (length image) 8 2 ∷ unless (same (take 3 image) (ascii "SLU")) 2 ∷ [])
 
--- 3, version not 0001.
+-- 3, version neither 0001 nor 0002.
+abbrev pub known : ℕ → Bool
+known version = cond (eqb version 0x0001) true (eqb version 0x0002)
+
 unfoldable pub versionCheck : List ℕ → ℕ
-versionCheck image = differ (versionOf image) 0x0001 3
+versionCheck image = unless (known (versionOf image)) 3
 
 -- 4, other layout rule. Each length is at least 1.
 unfoldable pub lengthCheck : ℕ → ℕ

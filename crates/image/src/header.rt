@@ -1,12 +1,12 @@
-// The header of an image: its mark, its length list and the rules of its layout.
+// The header of an image: its mark, its version, its length list and the rules of its layout.
 ghost use mathlib.Core.Path.{_≡_};
 ghost use mathlib.Core.Bool.{cond};
 ghost use Prim.Native.Nat.{_≤_, _+_, _*_, _%_};
 ghost use lib.Dec.{ltb};
 ghost use lib.ListN.{length, set};
-ghost use Rattle.image.specs.Image.{baseOf, countOf, codeAt, lengthsOf, codeOf, layoutOf};
+ghost use Rattle.image.specs.Image.{versionOf, baseOf, countOf, codeAt, lengthsOf, codeOf, layoutOf};
 ghost use Rattle.image.specs.Lengths.{afterAll, BeginsTo16};
-ghost use Rattle.image.specs.Validation.{markCheck, layoutCheck};
+ghost use Rattle.image.specs.Validation.{markCheck, known as isKnown, versionCheck, layoutCheck};
 use crate::Layout;
 use crate::LengthState;
 use numbers::checks::differ;
@@ -36,6 +36,27 @@ pub(crate) fn mark_check(image: &[u8]) -> u8
         return 2;
     }
     unless(check::same(&image[..3], b"SLU"), 2)
+}
+
+// The version.
+pub fn version_of(image: &[u8]) -> u16
+    ensures { λ r. ⌜ r ≡ versionOf (now (image .entry)) ⌝ }
+{
+    word_at(image, 3)
+}
+
+// Whether there is such a version.
+fn known(version: u16) -> bool
+    ensures { λ r. ⌜ r ≡ isKnown version ⌝ }
+{
+    if version == 1 { true } else { version == 2 }
+}
+
+// 3 where the version is neither 0001 nor 0002.
+pub(crate) fn version_check(image: &[u8]) -> u8
+    ensures { λ r. ⌜ r ≡ versionCheck (now (image .entry)) ⌝ }
+{
+    unless(known(version_of(image)), 3)
 }
 
 // The address of the first code byte.
@@ -94,6 +115,7 @@ pub(crate) fn layout_check(image: &[u8], lengths: LengthState) -> CheckedLayout
     ensures { λ r. ⌜ r .refusal ≡ layoutCheck (baseOf (now (image .entry))) (lengthsOf (now (image .entry))) (length (codeOf (now (image .entry)))) ⌝ }
 {
     let size = lengths.sum as usize;
+    let version = version_of(image);
     let base = base_of(image);
     let count = count_of(image) as usize;
     let code = code_at(image);
@@ -104,6 +126,7 @@ pub(crate) fn layout_check(image: &[u8], lengths: LengthState) -> CheckedLayout
     let refusal = first(refusal, under(0x10000, base as usize + size, 4));
     let refusal = first(refusal, differ(image.len(), code + size, 4));
     let layout = Layout {
+        version,
         base,
         count,
         code,

@@ -10,6 +10,7 @@ pub use areas::limits_of;
 pub use header::base_of;
 pub use header::code_at;
 pub use header::count_of;
+pub use header::version_of;
 pub use lengths::LengthState;
 pub use lengths::begin_at;
 ghost use mathlib.Core.Path.{_≡_};
@@ -19,9 +20,7 @@ ghost use Rattle.image.specs.Validation.{answer as answerOf, limitsCheck
 ghost use Rattle.image.specs.declared.Layout.{Layout};
 ghost use Rattle.image.specs.declared.Limits.{Limits};
 ghost use Rattle.image.specs.declared.Validated.the-variants.{Valid};
-use numbers::checks::differ;
 use numbers::checks::first;
-use numbers::words::word_at;
 
 // Addresses from low to high, both included.
 pub struct Area {
@@ -36,8 +35,9 @@ pub struct Limits {
     pub second: Area,
 }
 
-// The base address, the number of routines, the index of the first code byte in the image, and the number of code bytes.
+// The version, the base address, the number of routines, the index of the first code byte in the image, and the number of code bytes.
 pub struct Layout {
+    pub version: u16,
     pub base: u16,
     pub count: usize,
     pub code: usize,
@@ -72,7 +72,7 @@ fn judge(image: &[u8], limits_refusal: u8, lengths: LengthState) -> Validated
     ensures { λ r. ⌜ ((limits : Limits) → «limits_refusal» ≡ limitsCheck limits → r ≡ validated (now (image .entry)) limits) ⌝ }
 {
     let mark_refusal = header::mark_check(image);
-    let version_refusal = differ(word_at(image, 3) as usize, 1, 3);
+    let version_refusal = header::version_check(image);
     let checked = header::layout_check(image, lengths);
     let refusal = first(first(limits_refusal, mark_refusal), version_refusal);
     answer(first(refusal, checked.refusal), checked.layout)

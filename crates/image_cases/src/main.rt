@@ -119,7 +119,13 @@ fn second_grant_cases() {
 fn mark_and_version_cases() {
     with_image(b"empty", b"", 0);
     with_image(b"SLV", b"SLV\x00\x01\x80\x00\x01\x00\x01", 1);
+    with_image(b"version 0000", b"SLU\x00\x00\x80\x00\x01\x00\x01", 1);
+    with_image(b"version 0001", b"SLU\x00\x01\x80\x00\x01\x00\x01", 1);
+    with_image(b"version 0002", b"SLU\x00\x02\x80\x00\x01\x00\x01", 1);
+    with_image(b"version 0003", b"SLU\x00\x03\x80\x00\x01\x00\x01", 1);
     with_image(b"version 0101", b"SLU\x01\x01\x80\x00\x01\x00\x01", 1);
+    with_image(b"version 0102", b"SLU\x01\x02\x80\x00\x01\x00\x01", 1);
+    with_image(b"version 0200", b"SLU\x02\x00\x80\x00\x01\x00\x01", 1);
 }
 
 fn length_list_cases() {

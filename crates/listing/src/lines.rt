@@ -20,6 +20,7 @@ use crate::writing::push_word;
 use code::decode_at;
 use image::base_of;
 use image::code_at;
+use image::version_of;
 use rules::Verdict;
 use stm8::Decoded;
 
@@ -75,7 +76,8 @@ fn push_decoded(
     ensures { λ r. ⌜ Wrote at (now (buffer .entry)) (textAt address (instructionIn (now (image .entry)) offset)) r (now (buffer .exit)) ⌝ }
 {
     let code = code_at(image);
-    let d = decode_at(&image[code..], offset, size);
+    let version = version_of(image);
+    let d = decode_at(version, &image[code..], offset, size);
     match d {
         Decoded::Found(i, _) => push_text(buffer, at, address, i),
         Decoded::Outside => at,

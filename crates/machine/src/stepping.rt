@@ -37,6 +37,7 @@ fn fetch(image: &[u8], layout: Layout, pc: u32) -> Decoded
 {
     let code = layout.code;
     decode_at(
+        layout.version,
         &image[code..],
         pc as usize - layout.base as usize,
         layout.size,

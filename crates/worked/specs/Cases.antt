@@ -1,5 +1,5 @@
--- The cases that document 01 marks with ●, in its order, as W-202 has them, and W-202's and W-205's own: one table. What it expects is held against the
--- definitions that the contracts of `check` and `step` cite.
+-- The cases that document 01 marks with ●, in its order, as W-202 has them, and W-202's, W-205's and W-212's own: one table. What it expects is held
+-- against the definitions that the contracts of `check` and `step` cite.
 use Prim.Native.Nat.{ℕ}
 use mathlib.Core.List.{List, [], _∷_, _++_}
 use lib.ListN.{length, replicate}
@@ -14,7 +14,7 @@ use Rattle.rules.specs.declared.Verdict.the-variants.{Accepted, Refused}
 use Rattle.execution.specs.Performing.{Result, result}
 use Rattle.machine.specs.Step.{stepped}
 use Rattle.execution.specs.declared.Registers.{Registers}
-use Rattle.execution.specs.declared.StepAnswer.the-variants.{Made}
+use Rattle.execution.specs.declared.StepAnswer.the-variants.{Made, Trap}
 
 -- Examples use grant 0000-00FF, stack 0300-03FF, no second grant,
 abbrev pub limitsWith : (stackLow : ℕ) (second : Area) → Limits
@@ -35,12 +35,19 @@ words [] = []
 words (w ∷ rest) = high w ∷ low w ∷ words rest
 
 -- base 8000
-abbrev pub imageOf : List ℕ → List ℕ → List ℕ
-imageOf lengths code = ascii "SLU" ++ 0x00 ∷ 0x01 ∷ 0x80 ∷ 0x00 ∷ length lengths ∷ (words lengths ++ code)
+abbrev pub imageIn : (version : ℕ) → List ℕ → List ℕ → List ℕ
+imageIn version lengths code = ascii "SLU" ++ words (version ∷ 0x8000 ∷ []) ++ length lengths ∷ (words lengths ++ code)
 
--- and one routine.
+-- and one routine;
+abbrev pub routineIn : (version : ℕ) → List ℕ → List ℕ
+routineIn version code = imageIn version (length code ∷ []) code
+
+-- version 0001 where none is said.
+abbrev pub imageOf : List ℕ → List ℕ → List ℕ
+imageOf = imageIn 0x0001
+
 abbrev pub routine : List ℕ → List ℕ
-routine code = imageOf (length code ∷ []) code
+routine = routineIn 0x0001
 
 -- Marks hold FFFF before, one for each code byte. Memory is FE throughout: bit 0 of 0010 is clear, and a read past FFFF that was cut to 16 bits shows.
 abbrev pub marks : List ℕ → List ℕ
@@ -53,10 +60,12 @@ memory = replicate 32768 0xFE
 abbrev pub registers : ℕ → ℕ → ℕ → ℕ → Registers
 registers a x cc pc = record { a = a; x = x; y = 0x0000; cc = cc; sp = 0x03FD; pc = pc }
 
--- a case of the check: an image, limits and the verdict; or of the step: a routine's code, and the registers before and after it
+-- a case of the check: an image, limits and the verdict; or of the step: a routine's code, and the registers before and after it, or an image, the
+-- registers and the trap
 pub data Case : Type 0 where
   checks : List ℕ → Limits → Verdict → Case
   steps : List ℕ → Registers → Registers → Case
+  traps : List ℕ → Registers → ℕ → Case
 
 pub data Outcome : Type 0 where
   verdict : Verdict → Outcome
@@ -65,14 +74,20 @@ pub data Outcome : Type 0 where
 abbrev pub outcome : Case → Outcome
 outcome (checks image limits v) = verdict (checked image limits (marks image) .0)
 outcome (steps code before after) = step (stepped (routine code) usual before memory)
+outcome (traps image before number) = step (stepped image usual before memory)
 
 abbrev pub expected : Case → Outcome
 expected (checks image limits v) = verdict v
 expected (steps code before after) = step (result Made after memory)
+expected (traps image before number) = step (result (Trap number) before memory)
 
 -- lengths 3 and 4
 abbrev pub twoRoutines : List ℕ
 twoRoutines = imageOf (3 ∷ 4 ∷ []) (0x88 ∷ 0x84 ∷ 0x81 ∷ 0xCD ∷ 0x80 ∷ 0x00 ∷ 0x81 ∷ [])
+
+-- lengths 1 and 3, main with a CALLR of the routine before it
+abbrev pub relativeCall : List ℕ
+relativeCall = 0x81 ∷ 0xAD ∷ 0xFD ∷ 0x81 ∷ []
 
 -- CC reads V, the unused bit 6, I1, H, I0, N, Z, C. Each step is made from CC all 0 and all 1: what it does not set shows in the one, what it does
 -- not clear in the other.
@@ -106,6 +121,18 @@ cases =
     -- a second grant that meets the stack, and one above 7FFF
     checks (routine (0x81 ∷ [])) (secondGrant 0x0100 0x0300) (Refused 1 0) ∷
     checks (routine (0x81 ∷ [])) (secondGrant 0x4000 0x8000) (Refused 1 0) ∷
+    -- W-212: 3, version neither 0001 nor 0002
+    checks (routineIn 0x0003 (0x81 ∷ [])) usual (Refused 3 0) ∷
+    checks (routineIn 0x0002 (0x81 ∷ [])) usual (Accepted 2 1) ∷
+    -- the same code with CALLR in both versions; a step at it in 0002, and in both where its last byte is missing
+    checks (imageIn 0x0001 (1 ∷ 3 ∷ []) relativeCall) usual (Accepted 4 3) ∷
+    checks (imageIn 0x0002 (1 ∷ 3 ∷ []) relativeCall) usual (Refused 8 1) ∷
+    traps (imageIn 0x0002 (1 ∷ 3 ∷ []) relativeCall) (registers 0x00 0x0000 0b0000_0000 0x8001) 23 ∷
+    traps (routineIn 0x0001 (0xAD ∷ [])) (registers 0x00 0x0000 0b0000_0000 0x8000) 22 ∷
+    traps (routineIn 0x0002 (0xAD ∷ [])) (registers 0x00 0x0000 0b0000_0000 0x8000) 23 ∷
+    -- AD as a routine's last byte: 9, and 8
+    checks (routineIn 0x0001 (0xAD ∷ [])) usual (Refused 9 0) ∷
+    checks (routineIn 0x0002 (0xAD ∷ [])) usual (Refused 8 0) ∷
     -- ADD A,#$94 with A B5: A 49, V 1, H 0, N 0, Z 0, C 1
     steps (0xAB ∷ 0x94 ∷ []) (registers 0xB5 0x0000 0b0000_0000 0x8000) (registers 0x49 0x0000 0b1000_0001 0x8002) ∷
     steps (0xAB ∷ 0x94 ∷ []) (registers 0xB5 0x0000 0b1111_1111 0x8000) (registers 0x49 0x0000 0b1110_1001 0x8002) ∷

@@ -19,6 +19,8 @@ const SHORT_ROUNDS: usize = 201;
 const LONG_ROUNDS: usize = 9;
 const LIMITS: Limits =
     Limits { grant: Area { low: 0x0000, high: 0x00FF }, stack: Area { low: 0x1600, high: 0x17FF }, second: Area::NONE };
+/// The version that every library has, so that one from before 0002 can be measured too. No image here has CALLR.
+const VERSION: u16 = 1;
 const BASE: u16 = 0x8000;
 
 /// What each took for one and the same thing, in nanoseconds: `None` where there is nothing to measure.
@@ -214,7 +216,7 @@ fn full_image() -> Vec<u8> {
         code.push(0x81);
         routines.push(code);
     }
-    slu::image_of(BASE, &routines)
+    slu::image_of(VERSION, BASE, &routines)
 }
 
 /// An accepted image of 4,096 code bytes with 1,000 jumps back, each of which but the last is reached from the next one alone.
@@ -227,7 +229,7 @@ fn backward_image() -> Vec<u8> {
     let last = code.len() - 2;
     code.resize(4_094, 0x9D);
     code.extend([0x20, (last as isize - 4_096) as u8]);
-    slu::image_of(BASE, &[code])
+    slu::image_of(VERSION, BASE, &[code])
 }
 
 /// An accepted image of one routine without jumps.
@@ -238,7 +240,7 @@ fn straight_image(bytes: usize) -> Vec<u8> {
     let mut code = BLOCK.repeat((bytes - 1) / BLOCK.len());
     code.resize(bytes - 1, 0x9D);
     code.push(0x81);
-    slu::image_of(BASE, &[code])
+    slu::image_of(VERSION, BASE, &[code])
 }
 
 // Steps and runs.
@@ -292,7 +294,7 @@ impl Workload {
     }
 
     fn image(&self) -> Vec<u8> {
-        slu::image_of(BASE, &self.routines)
+        slu::image_of(VERSION, BASE, &self.routines)
     }
 }
 

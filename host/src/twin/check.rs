@@ -3,7 +3,7 @@
 //! A routine is tested in the order of W-202, wholly before the next one: 8, 9 and 15 at each start; 13 and 10 at each jump; 6; 7;
 //! then 11, 12 and 14 at each start. 16 comes after the last routine.
 
-use super::decode::{decode, Instruction, Place, Undecodable};
+use super::decode::{Instruction, Place, Undecodable};
 use super::image::{validate, Image};
 use crate::types::{Accepted, Limits, Refusal, Refused};
 
@@ -104,7 +104,7 @@ impl<'a> Check<'a> {
         let mut at = first;
         while at < end {
             let offset = at as u16;
-            let (instruction, length) = decode(&self.image.code[at..end]).map_err(|why| match why {
+            let (instruction, length) = self.image.decode(&self.image.code[at..end]).map_err(|why| match why {
                 Undecodable::Outside => refused(Refusal::Outside, offset),
                 Undecodable::Truncated => refused(Refusal::Truncated, offset),
             })?;

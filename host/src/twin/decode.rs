@@ -99,7 +99,7 @@ pub enum Bit {
     CopyCarry,
 }
 
-/// An instruction of the gate set. Jump offsets count from the next instruction.
+/// An instruction of the gate set, whatever the version. Jump offsets count from the next instruction.
 #[derive(Clone, Copy, Debug, PartialEq, Eq)]
 pub enum Instruction {
     Accumulate(Alu, Source),
@@ -191,7 +191,7 @@ pub enum Undecodable {
 /// The longest instruction's bytes.
 const LONGEST: usize = 5;
 
-/// The instruction at the front of `bytes`, and its length.
+/// The instruction at the front of `bytes`, and its length, by the whole set: of no image, so of no version.
 pub fn decode(bytes: &[u8]) -> Result<(Instruction, usize), Undecodable> {
     // A whole window needs no test for missing bytes; a shorter one is filled with zeros, and its length compared afterwards.
     if let Some(window) = bytes.first_chunk::<LONGEST>() {

@@ -1,14 +1,19 @@
-//! Limits and the layout of an SLU image: refusals 1 to 4, and where a direct store may go.
+//! Limits and the layout of an SLU image: refusals 1 to 4, which instructions its version has, and where a direct store may go.
 
+use super::decode::{decode, Instruction, Undecodable};
 use crate::types::{Area, Limits, Refusal};
 
 const HEADER: usize = 8;
 const CODE_AT_MOST: usize = 4_096;
 const ADDRESSES: usize = 0x1_0000;
+/// The op-code that version 0002 leaves out of the set.
+const CALLR: u8 = 0xAD;
 
 /// An image whose layout is right.
 #[derive(Clone, Copy, Debug)]
 pub struct Image<'a> {
+    /// 1 or 2.
+    pub version: u16,
     /// The address of the first code byte.
     pub base: u32,
     pub code: &'a [u8],
@@ -21,7 +26,8 @@ impl<'a> Image<'a> {
         if file.len() < HEADER || !file.starts_with(b"SLU") {
             return Err(Refusal::NotSlu);
         }
-        if file[3..5] != [0, 1] {
+        let version = u16::from_be_bytes([file[3], file[4]]);
+        if !matches!(version, 1 | 2) {
             return Err(Refusal::Version);
         }
         let base = usize::from(u16::from_be_bytes([file[5], file[6]]));
@@ -35,10 +41,21 @@ impl<'a> Image<'a> {
             && base + total <= ADDRESSES
             && code.len() == total;
         if good {
-            Ok(Image { base: base as u32, code, lengths })
+            Ok(Image { version, base: base as u32, code, lengths })
         } else {
             Err(Refusal::Layout)
         }
+    }
+
+    /// The instruction at the front of `bytes`, which are of its code, and its length, by the set of its version.
+    ///
+    /// What is outside the set has no length, so bytes that end after the op-code of CALLR do not end too soon in version 0002.
+    #[inline]
+    pub fn decode(&self, bytes: &[u8]) -> Result<(Instruction, usize), Undecodable> {
+        if self.version == 2 && bytes.first() == Some(&CALLR) {
+            return Err(Undecodable::Outside);
+        }
+        decode(bytes)
     }
 
     /// The routines in table order: the offsets of their first byte and of the byte after their last.

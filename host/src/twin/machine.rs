@@ -1,7 +1,7 @@
 //! The machine: starting, a step with its traps and flags, and runs.
 
 use super::check::check;
-use super::decode::{decode, Alu, Bit, Half, Index, Instruction, Modify, Place, Source, Target, Undecodable, WordOp, WordSource};
+use super::decode::{Alu, Bit, Half, Index, Instruction, Modify, Place, Source, Target, Undecodable, WordOp, WordSource};
 use super::image::{validate, Image};
 use crate::types::{Accepted, Ending, Limits, Refusal, Refused, Registers, Run, Step, Trap, MEMORY_BYTES};
 
@@ -94,7 +94,7 @@ impl<'a> Machine<'a> {
         }
         let offset = registers.pc.wrapping_sub(self.image.base) as usize;
         let bytes = self.image.code.get(offset..).filter(|bytes| !bytes.is_empty()).ok_or(Trap::Pc)?;
-        let (instruction, length) = decode(bytes).map_err(|why| match why {
+        let (instruction, length) = self.image.decode(bytes).map_err(|why| match why {
             Undecodable::Outside => Trap::Outside,
             Undecodable::Truncated => Trap::Pc,
         })?;

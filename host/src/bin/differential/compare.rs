@@ -1,8 +1,10 @@
 //! One call to the library and to the twin, every cell compared, and the tally of answers.
 
 use crate::limits::Second;
-use crate::program::{Case, Known, Shape};
+use crate::program::{Case, Known};
 use crate::random::Random;
+use crate::shape::Shape;
+use crate::versions::Versions;
 use gate_host::cells::{self, RegisterCells, ReportCells};
 use gate_host::twin::{self, Instruction};
 use gate_host::{Accepted, Ending, Limits, Refused, Registers, Step, Trap, MEMORY_BYTES, TEXT_BYTES};
@@ -26,10 +28,12 @@ pub struct Tally {
     pub run_steps: u64,
     /// Steps made one by one, for each op-code of the three pages.
     pub opcodes: Vec<[u64; 256]>,
-    /// Control flow of the images that were checked as they were made, in the order of `Shape::ALL`.
+    /// Shapes of the images that were checked as they were made, in the order of `Shape::ALL`.
     pub shapes: [u64; Shape::ALL.len()],
     /// What was met of the second grant, in the order of `Second`.
     pub second: [u64; Second::ALL.len()],
+    /// What was met of the versions, in the order of `Versions`.
+    pub versions: [u64; Versions::ALL.len()],
     /// Trap 22: PC not in the code, bytes that run out, a call whose next address is 10000.
     pub trap_22: [u64; 3],
 }
@@ -53,6 +57,16 @@ impl Tally {
 
     pub fn times(&self, what: Second) -> u64 {
         self.second[what as usize]
+    }
+
+    pub fn note_versions(&mut self, met: impl IntoIterator<Item = Versions>) {
+        for what in met {
+            self.versions[what as usize] += 1;
+        }
+    }
+
+    pub fn version_times(&self, what: Versions) -> u64 {
+        self.versions[what as usize]
     }
 
     /// The op-codes of which a step was made.
@@ -109,6 +123,7 @@ fn report_cells(verdict: Result<Accepted, Refused>) -> (u8, ReportCells) {
 }
 
 /// The memory as the library and as the twin have it. They are equal between calls.
+#[derive(Clone, PartialEq)]
 pub struct Memories {
     library: Vec<u8>,
     twin: Vec<u8>,
@@ -135,8 +150,16 @@ impl Memories {
     }
 }
 
-/// Checks, and gives the need and count that both answered.
-pub fn check(case: &Case, marks: &[u16], tally: &mut Tally) -> Compared<Option<Accepted>> {
+/// What a check answered, and the marks that it left.
+#[derive(PartialEq)]
+pub struct Checked {
+    pub number: u8,
+    pub report: ReportCells,
+    pub marks: Vec<u16>,
+}
+
+/// Checks, and gives what both answered.
+pub fn check(case: &Case, marks: &[u16], tally: &mut Tally) -> Compared<Checked> {
     let (mut library, mut other) = (marks.to_vec(), marks.to_vec());
     let mut report = [u16::from(BLANK); 3];
     let number = cells::check(&case.image, &case.limits, &mut library, &mut report);
@@ -146,10 +169,11 @@ pub fn check(case: &Case, marks: &[u16], tally: &mut Tally) -> Compared<Option<A
     tally.check.add(number);
     let refused = code_from(&case.image, report[0].into()).and_then(instruction);
     tally.note_second(Second::of_refusal(&case.limits, number, refused));
+    tally.note_versions(Versions::of_check(&case.image, number, report[0], &library));
     if let Some(known) = &case.known {
         by_construction(known, number, report, &library)?;
     }
-    Ok(verdict.ok())
+    Ok(Checked { number, report, marks: library })
 }
 
 /// An image is answered as it was made to be: with the depths that it was made with, or with the first refusal that it has.
@@ -214,7 +238,9 @@ pub fn step(
     memories.same()?;
     tally.step.add(number);
     if let Ok(answer) = answer {
-        note_step(answer, bytes_at(image, given), limits, tally);
+        let bytes = bytes_at(image, given);
+        note_step(answer, bytes, limits, tally);
+        tally.note_versions(bytes.and_then(|bytes| Versions::of_step(image, bytes, answer)));
     }
     Ok((number, registers))
 }
@@ -234,7 +260,7 @@ fn note_step(answer: Step, bytes: Option<&[u8]>, limits: &Limits, tally: &mut Ta
 }
 
 /// The code bytes from PC on, where PC is in the code of a good image.
-fn bytes_at(image: &[u8], registers: RegisterCells) -> Option<&[u8]> {
+pub fn bytes_at(image: &[u8], registers: RegisterCells) -> Option<&[u8]> {
     let base = twin::Image::parse(image).ok()?.base;
     code_from(image, registers[5].wrapping_sub(base) as usize)
 }
@@ -268,7 +294,7 @@ fn note_trap_22(bytes: Option<&[u8]>, tally: &mut Tally) {
     tally.trap_22[why] += 1;
 }
 
-/// Runs, and gives the registers that both answered.
+/// Runs, and gives the number, steps and registers that both answered.
 pub fn run(
     image: &[u8],
     limits: &Limits,
@@ -277,7 +303,7 @@ pub fn run(
     given: RegisterCells,
     budget: u32,
     tally: &mut Tally,
-) -> Compared<(u8, RegisterCells)> {
+) -> Compared<(u8, u32, RegisterCells)> {
     let (mut registers, mut twin_registers) = (given, Registers::from_cells(&given));
     let mut steps = [u32::from(BLANK)];
     let number = cells::run(image, limits, &mut memories.library[..lent], &mut registers, budget, &mut steps);
@@ -294,7 +320,7 @@ pub fn run(
     memories.same()?;
     tally.run.add(number);
     tally.run_steps += u64::from(steps[0]);
-    Ok((number, registers))
+    Ok(library)
 }
 
 pub fn decode(bytes: &[u8], address: u16, tally: &mut Tally) -> Compared<()> {

@@ -2,6 +2,7 @@
 
 use crate::generator::Generator;
 use crate::program::Case;
+use crate::versions::{self, CALLR};
 use gate_host::twin::{self, Instruction, Place, Target};
 use gate_host::{Area, Limits};
 
@@ -18,7 +19,7 @@ impl Generator<'_> {
         let table = 2 * usize::from(*case.image.get(7).unwrap_or(&0));
         let code = (8 + table).min(case.image.len());
         let length = case.image.len() - code;
-        match self.random.below(23) {
+        match self.random.below(26) {
             0..=3 if length > 0 => {
                 let at = code + self.random.below(length);
                 case.image[at] ^= 1 << self.random.below(8);
@@ -55,7 +56,10 @@ impl Generator<'_> {
             17..=18 => self.readdress(&case.limits, &mut case.image[code..]),
             19 => self.deepen(&mut case.image[code..]),
             20..=21 => self.move_limit(&mut case.limits),
-            _ => self.move_second(&mut case.limits),
+            22 => self.move_second(&mut case.limits),
+            23 => versions::set_version(&mut case.image, self.neither_version()),
+            24 => versions::set_version(&mut case.image, self.random.pick(&[1, 2])),
+            _ => self.put_callr(&mut case.image),
         }
     }
 
@@ -137,6 +141,20 @@ impl Generator<'_> {
         let nexts: Vec<usize> = stores.map(|(_, _, next)| next).collect();
         if let Some(next) = self.random.pick_if_any(&nexts) {
             code[next - 2..next].copy_from_slice(&self.grant_border(limits).to_be_bytes());
+        }
+    }
+
+    /// The op-code of CALLR comes to some start of sound code, or to some routine's last byte.
+    fn put_callr(&mut self, file: &mut [u8]) {
+        let Ok(image) = twin::Image::parse(file) else { return };
+        let places: Vec<usize> = if self.random.one_in(2) {
+            sweep(image.code).into_iter().map(|(at, ..)| at).collect()
+        } else {
+            image.routines().map(|(_, end)| end - 1).collect()
+        };
+        let code = file.len() - image.code.len();
+        if let Some(at) = self.random.pick_if_any(&places) {
+            file[code + at] = CALLR;
         }
     }
 

@@ -1,7 +1,8 @@
-//! Control flow: loops tested at the bottom, which are accepted, and what W-202 refuses with 6, 7 and 11.
+//! Control flow: loops tested at the bottom, which are accepted, and what W-202 refuses with 6, 7 and 11, or W-212 with 8.
 
 use crate::generator::Generator;
-use crate::program::{Case, Flaws, Jump, Program, Routine, Shape};
+use crate::program::{Case, Flaws, Jump, Program, Routine};
+use crate::shape::Shape;
 use gate_host::slu;
 use gate_host::twin::{self, Instruction};
 
@@ -221,9 +222,9 @@ impl Generator<'_> {
 
     // Images.
 
-    /// An image of routines whose control flow W-202 refuses, or just lets pass.
+    /// An image of routines whose control flow W-202 refuses, or just lets pass, or that have CALLR.
     pub fn flawed(&mut self) -> Case {
-        let mut program = Program::new(self.limits());
+        let mut program = Program::new(self.version, self.limits());
         let routines = self.random.between(1, 4);
         let with_lanes = if self.random.one_in(8) { self.random.below(routines) } else { routines };
         for number in 0..routines {
@@ -240,8 +241,8 @@ impl Generator<'_> {
 
     fn flaws(&mut self) -> Flaws {
         let (shallowest, deepest) = self.random.pick(&[(0, 4), (0, 255), (-1, 255), (0, 256), (-2, 257), (-300, 600)]);
-        let [islands, slips, crosses] = [5, 4, 3].map(|times| self.random.one_in(times));
-        Flaws { shallowest, deepest, islands, slips, crosses }
+        let [islands, slips, crosses, callr, last_callr] = [5, 4, 3, 2, 20].map(|times| self.random.one_in(times));
+        Flaws { shallowest, deepest, islands, slips, crosses, callr, last_callr }
     }
 
     /// An image of a few jumps, stack moves, returns and calls in any order; each jump goes to some start of its routine.
@@ -265,7 +266,8 @@ impl Generator<'_> {
             }
             lengths.push(code.len() - first);
         }
-        Case { image: slu::image(0x8000, &lengths, &code), limits, marks: code.len(), known: None, shapes: Vec::new() }
+        let image = slu::image(self.version, 0x8000, &lengths, &code);
+        Case { image, limits, marks: code.len(), known: None, shapes: Vec::new() }
     }
 
     fn tangled(&mut self) -> Vec<u8> {

@@ -38,6 +38,8 @@ pub fn templates() -> Vec<Template> {
 pub struct Generator<'a> {
     pub random: &'a mut Random,
     pub templates: &'a [Template],
+    /// The version of the images, 1 or 2.
+    pub version: u16,
 }
 
 impl<'a> Generator<'a> {
@@ -57,7 +59,7 @@ impl<'a> Generator<'a> {
             1..=3 => 1_000,
             _ => 200,
         };
-        let mut program = Program::new(limits);
+        let mut program = Program::new(self.version, limits);
         for left in (1..=routines).rev() {
             let room = budget.saturating_sub(program.code.len()) / left;
             let flaws = Flaws::none(self.random.pick(&[4, 30, 255]));
@@ -82,6 +84,9 @@ impl<'a> Generator<'a> {
         }
         if flaws.islands && self.random.one_in(3) {
             self.last_island(program, &mut routine);
+        }
+        if flaws.last_callr {
+            self.last_callr(program, &mut routine);
         }
         if flaws.crosses {
             self.cross(program, &mut routine);
@@ -157,6 +162,8 @@ impl<'a> Generator<'a> {
                 let callee = self.random.pick_if_any(&program.firsts)?;
                 program.calls.push((at + 1, callee));
             }
+            // Outside the set, whatever its offset.
+            Instruction::CallRelative(_) if program.version == 2 => return routine.flaws.callr.then_some(()),
             Instruction::CallRelative(_) => {
                 let next = at + 2;
                 let near: Vec<usize> = program.firsts.iter().copied().filter(|first| next - first <= 128).collect();
@@ -286,7 +293,8 @@ impl<'a> Generator<'a> {
             _ => self.random.between(0x8000, 0x1_0000 - code.len()),
         };
         let marks = code.len() + self.random.below(3);
-        Case { image: slu::image(base as u16, &lengths, &code), limits, marks, known: None, shapes: Vec::new() }
+        let image = slu::image(self.version, base as u16, &lengths, &code);
+        Case { image, limits, marks, known: None, shapes: Vec::new() }
     }
 
     // Borders of the layout.
@@ -312,6 +320,7 @@ impl<'a> Generator<'a> {
         let top = 0x1_0000 - total;
         let base = self.random.pick(&[0x7FFF, 0x8000, 0x8001, top - 1, top, (top + 1).min(0xFFFF)]);
         let marks = total - self.random.pick(&[0, 0, 0, 1]);
-        Case { image: slu::image(base as u16, &lengths, &code), limits, marks, known: None, shapes: Vec::new() }
+        let image = slu::image(self.version, base as u16, &lengths, &code);
+        Case { image, limits, marks, known: None, shapes: Vec::new() }
     }
 }

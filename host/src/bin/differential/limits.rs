@@ -242,6 +242,7 @@ impl Generator<'_> {
             code.extend(self.grant_border(&limits).to_be_bytes());
         }
         code.push(0x81);
-        Case { image: slu::image_of(0x8000, &[&code]), limits, marks: code.len(), known: None, shapes: Vec::new() }
+        let image = slu::image_of(self.version, 0x8000, &[&code]);
+        Case { image, limits, marks: code.len(), known: None, shapes: Vec::new() }
     }
 }

@@ -1,6 +1,8 @@
 //! Code as it grows, instruction by instruction, and what the check must answer to it.
 
 use crate::random::Random;
+use crate::shape::Shape;
+use crate::versions::CALLR;
 use gate_host::{slu, Limits};
 
 const RET: u8 = 0x81;
@@ -25,66 +27,9 @@ pub enum Known {
     Refused(u8, u16),
 }
 
-/// Control flow that decides what W-202 answers.
-#[derive(Clone, Copy, PartialEq)]
-pub enum Shape {
-    BottomLoop,
-    IslandToItself,
-    IslandIntoReached,
-    PushingLoop,
-    PoppingLoop,
-    CrossJump,
-    Apart65536,
-    Below0,
-    Above255,
-    FromAbove,
-    AgreeBeyond16Bits,
-}
-
-impl Shape {
-    pub const ALL: [Shape; 11] = [
-        Shape::BottomLoop,
-        Shape::IslandToItself,
-        Shape::IslandIntoReached,
-        Shape::PushingLoop,
-        Shape::PoppingLoop,
-        Shape::CrossJump,
-        Shape::Apart65536,
-        Shape::Below0,
-        Shape::Above255,
-        Shape::FromAbove,
-        Shape::AgreeBeyond16Bits,
-    ];
-
-    pub fn name(self) -> &'static str {
-        match self {
-            Shape::BottomLoop => "loops tested at the bottom",
-            Shape::IslandToItself => "islands that jump to themselves",
-            Shape::IslandIntoReached => "islands that jump into reached code",
-            Shape::PushingLoop => "loops that push",
-            Shape::PoppingLoop => "loops that pop",
-            Shape::CrossJump => "jumps to another depth",
-            Shape::Apart65536 => "depths apart by 65,536 or a multiple",
-            Shape::Below0 => "depths below 0",
-            Shape::Above255 => "depths above 255",
-            Shape::FromAbove => "depths that leave their range at a higher address first",
-            Shape::AgreeBeyond16Bits => "paths that agree beyond 16 bits",
-        }
-    }
-
-    /// The number that a routine is refused with for it, 0 if it is accepted.
-    fn answer(self) -> u8 {
-        match self {
-            Shape::BottomLoop => 0,
-            Shape::IslandToItself | Shape::IslandIntoReached => 6,
-            Shape::PushingLoop | Shape::PoppingLoop | Shape::CrossJump | Shape::Apart65536 => 7,
-            Shape::Below0 | Shape::Above255 | Shape::FromAbove | Shape::AgreeBeyond16Bits => 11,
-        }
-    }
-}
-
 /// The code, routine after routine.
 pub struct Program {
+    pub version: u16,
     pub code: Vec<u8>,
     pub limits: Limits,
     /// CALL operands: where they stand, and the offset of the routine that they name.
@@ -99,8 +44,9 @@ pub struct Program {
 }
 
 impl Program {
-    pub fn new(limits: Limits) -> Program {
+    pub fn new(version: u16, limits: Limits) -> Program {
         Program {
+            version,
             code: Vec::new(),
             limits,
             calls: Vec::new(),
@@ -123,7 +69,7 @@ impl Program {
         self.firsts.push(routine.first);
         self.lengths.push(self.code.len() - routine.first);
         if self.refused.is_none() {
-            self.refused = routine.refused();
+            self.refused = routine.refused(self.version);
             let answer = self.refused.map_or(0, |(number, _)| number);
             self.shapes.extend(routine.shapes.into_iter().filter(|shape| shape.answer() == answer));
         }
@@ -146,7 +92,7 @@ impl Program {
             None => Known::Accepted(self.marks),
         };
         Case {
-            image: slu::image(base as u16, &self.lengths, &self.code),
+            image: slu::image(self.version, base as u16, &self.lengths, &self.code),
             limits: self.limits,
             marks: bytes + random.pick(&[0, 0, 1, 9]),
             known: Some(known),
@@ -185,12 +131,15 @@ pub struct Flaws {
     pub islands: bool,
     pub slips: bool,
     pub crosses: bool,
+    /// Whether it may have CALLR in version 0002 too, and whether it ends with CALLR.
+    pub callr: bool,
+    pub last_callr: bool,
 }
 
 impl Flaws {
     /// Depths of 0 to `deepest`, and nothing to refuse.
     pub fn none(deepest: i32) -> Flaws {
-        Flaws { shallowest: 0, deepest, islands: false, slips: false, crosses: false }
+        Flaws { shallowest: 0, deepest, islands: false, slips: false, crosses: false, callr: false, last_callr: false }
     }
 
     /// Whether a depth may be one that is not allowed.
@@ -216,6 +165,10 @@ pub struct Routine {
     disagree: bool,
     /// The lowest start where a depth is not allowed: code is added rising, so the first that is.
     out_of_range: Option<usize>,
+    /// The lowest start of CALLR, cut short or not.
+    callr: Option<usize>,
+    /// What its last start is refused with where that falls off it or is cut short, and the offset.
+    last: Option<(u8, usize)>,
     shapes: Vec<Shape>,
 }
 
@@ -231,6 +184,8 @@ impl Routine {
             islands: Vec::new(),
             disagree: false,
             out_of_range: None,
+            callr: None,
+            last: None,
             shapes: Vec::new(),
         }
     }
@@ -244,6 +199,7 @@ impl Routine {
             self.note_depths(before, after);
         }
         self.starts.push((at, before));
+        self.note_callr(at, bytes);
         program.code.extend(bytes);
         program.marks.push((before + 1) as u16);
         program.marks.resize(program.code.len(), 0);
@@ -253,8 +209,23 @@ impl Routine {
     /// Adds an instruction that nothing reached goes to.
     pub fn add_unreached(&mut self, program: &mut Program, bytes: &[u8]) {
         self.islands.push(program.code.len());
+        self.note_callr(program.code.len(), bytes);
         program.code.extend(bytes);
         program.marks.resize(program.code.len(), 0);
+    }
+
+    /// Adds a last start, which is refused for this.
+    pub fn add_last(&mut self, program: &mut Program, bytes: &[u8], shape: Shape) {
+        self.last = Some((shape.answer(), program.code.len()));
+        self.meets(shape);
+        self.add_unreached(program, bytes);
+    }
+
+    fn note_callr(&mut self, at: usize, bytes: &[u8]) {
+        if bytes[0] == CALLR {
+            self.callr.get_or_insert(at);
+            self.meets(Shape::Callr);
+        }
     }
 
     fn note_depths(&mut self, before: i32, after: i32) {
@@ -315,8 +286,14 @@ impl Routine {
         starts.filter(|start| *start < jump.next || !self.bodies.contains(start)).collect()
     }
 
-    /// The number and offset that it is refused with, in W-202's order.
-    fn refused(&self) -> Option<(u8, usize)> {
+    /// The number and offset that it is refused with, in W-202's order. CALLR is allowed where it was added, in version 0001.
+    fn refused(&self, version: u16) -> Option<(u8, usize)> {
+        if let (2, Some(at)) = (version, self.callr) {
+            return Some((8, at));
+        }
+        if self.last.is_some() {
+            return self.last;
+        }
         match (self.islands.first(), self.disagree) {
             (Some(&island), _) => Some((6, island)),
             (None, true) => Some((7, self.first)),

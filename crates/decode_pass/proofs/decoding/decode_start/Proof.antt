@@ -22,7 +22,7 @@ answer : (c : tie.After-decode-at) (image : List ℕ) →
     GivenAt s image → c .decode-at .result ≡ instructionAt image (s .args .r .index) (s .args .at)
 answer c image given =
     let s = c .before .before in
-    c .decode-at .ensures .0 image (given .own) ∙
+    c .decode-at .ensures .0 image (given .routine .version-is) (given .own) ∙
     ap (λ n. decodedAt image n (s .args .at)) (given .routine .end-is)
 
 returns : tie.Need-returns

@@ -18,7 +18,7 @@ returns c =
     let a = start .args in
     let image = now (a .image) in
     let is = start .pre .0 .is in
-    c .decode-at .ensures .0 image (code-cut image (a .layout .code) (ap (λ (l : Layout). l .code) is)) ∙
+    c .decode-at .ensures .0 image (ap (λ (l : Layout). l .version) is) (code-cut image (a .layout .code) (ap (λ (l : Layout). l .code) is)) ∙
     ap (λ (l : Layout). decodedAt image (l .size) (a .pc - l .base)) is
 
 pub fetch-spec : {M : Type 1} → statement M
