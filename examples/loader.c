@@ -1,4 +1,4 @@
-/* A loader in C: checks an image, lists it, starts it and runs it, and prints the registers and the bytes that it stored.
+/* A loader in C: checks an image, lists it, starts it and runs it, and prints cycles, registers and the bytes that it stored.
  *
  *     rt staticlib gate_c
  *     gcc -Iinclude examples/loader.c target/staticlib/libgate_c.a -o loader
@@ -47,7 +47,16 @@ static const uint8_t store_outside[] = {
 static uint16_t marks[GATE_MARKS_ENOUGH];
 static uint8_t memory[GATE_MEMORY_BYTES];
 
-/* One line for each start of an accepted image: address, depth and text. */
+/* An instruction's cycles as the manual prints them: one figure, or two where a jump may be taken. */
+static void print_cycles(const uint8_t cycles[GATE_CYCLES])
+{
+    if (cycles[GATE_UNTAKEN] == cycles[GATE_TAKEN])
+        printf(" %u  ", (unsigned)cycles[GATE_TAKEN]);
+    else
+        printf(" %u/%u", (unsigned)cycles[GATE_UNTAKEN], (unsigned)cycles[GATE_TAKEN]);
+}
+
+/* One line for each start of an accepted image: address, depth, cycles and text. */
 static void list(const uint8_t *image, size_t image_length)
 {
     const size_t code = HEADER_BYTES + 2u * image[7];
@@ -55,10 +64,13 @@ static void list(const uint8_t *image, size_t image_length)
     for (size_t at = code; at < image_length; at++) {
         const uint16_t mark = marks[at - code];
         const uint16_t address = (uint16_t)(base + (at - code));
-        uint8_t text[GATE_TEXT_BYTES];
+        uint8_t text[GATE_TEXT_BYTES], cycles[GATE_CYCLES];
         size_t length[1];
-        if (mark != 0 && gate_decode(image + at, image_length - at, address, text, length) == GATE_OK)
-            printf("  %04X %u %s\n", (unsigned)address, (unsigned)mark - 1, (const char *)text);
+        if (mark == 0 || gate_decode(image + at, image_length - at, address, text, length, cycles) != GATE_OK)
+            continue;
+        printf("  %04X %u", (unsigned)address, (unsigned)mark - 1);
+        print_cycles(cycles);
+        printf(" %s\n", (const char *)text);
     }
 }
 
@@ -83,6 +95,7 @@ static void load(const char *name, const uint8_t *image, size_t image_length)
     uint32_t registers[GATE_REGISTERS] = {0};
     uint16_t report[GATE_REPORT];
     uint32_t steps[1];
+    uint64_t cycles[1];
     memset(memory, 0, sizeof memory);
     const uint8_t verdict = gate_start(image, image_length, &limits, marks, GATE_MARKS_ENOUGH,
                                        memory, sizeof memory, registers, report);
@@ -92,11 +105,12 @@ static void load(const char *name, const uint8_t *image, size_t image_length)
     }
     printf("%s: accepted %u %u\n", name, (unsigned)report[GATE_NEED], (unsigned)report[GATE_COUNT]);
     list(image, image_length);
-    const uint8_t ending = gate_run(image, image_length, &limits, memory, sizeof memory, registers, BUDGET, steps);
+    const uint8_t ending = gate_run(image, image_length, &limits, memory, sizeof memory, registers, BUDGET, steps, cycles);
     if (ending == GATE_FINISHED)
-        printf("  finished after %" PRIu32 " steps\n", steps[0]);
+        printf("  finished");
     else
-        printf("  ended with %u after %" PRIu32 " steps\n", (unsigned)ending, steps[0]);
+        printf("  ended with %u", (unsigned)ending);
+    printf(" after %" PRIu32 " steps and %" PRIu64 " cycles\n", steps[0], cycles[0]);
     print_state(registers);
 }
 

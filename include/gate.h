@@ -12,6 +12,10 @@
  * An image is SLU of version 0001 or 0002. The two have the same layout, and 0002 leaves CALLR out of the set: its operand is a
  * distance, so it breaks when tools move routines. All else is the same in both.
  *
+ * Cycles are the figures of the cy column on the manual's instruction pages; wait states and pipeline stalls are not counted.
+ * Where a page prints two, as 1/2, the first is of a jump that is not taken and the second of one that is. A jump is taken where
+ * its condition holds, even if it leads to the next instruction; JRF never is.
+ *
  * Every function is re-entrant: the library keeps nothing between calls and writes no cell but those of its arguments and the
  * caller's stack. Calls may go on at the same time, in threads or in an interrupt, if no cell that one of them writes is an
  * argument of another; an image and limits, which are only read, may be shared.
@@ -90,6 +94,9 @@ enum gate_register { GATE_A, GATE_X, GATE_Y, GATE_CC, GATE_SP, GATE_PC, GATE_REG
 /* The cells of a report. */
 enum gate_report { GATE_OFFSET, GATE_NEED, GATE_COUNT, GATE_REPORT };
 
+/* The cells of the cycles of an instruction. */
+enum gate_cycles { GATE_UNTAKEN, GATE_TAKEN, GATE_CYCLES };
+
 /* Checks an image under limits. The answer is 0 (accepted) or a refusal from 1 to 16; 1 is of the limits, whatever the image.
  * report: the refusal's offset from the first code byte, 0 for all but 6 to 15 (7 points at its routine's first byte, the others
  * at the instruction to look at); the need; the count of starts. Offset is 0 where accepted, need and count are 0 where refused.
@@ -112,16 +119,17 @@ uint8_t gate_start(const uint8_t *image, size_t image_length,
 
 /* Makes one step. The answer is 0 (made), GATE_FINISHED, a trap from 21 to 25, or a refusal (17, 1 to 4). Each register is read
  * by its low 8 bits (A, CC), 16 bits (X, Y, SP) or 32 bits (PC), whatever the answer.
- *   0: registers and memory are those after the instruction, and PC may now be 0.
- *   GATE_FINISHED, a trap or a refusal: registers come back as they were read, and memory is as it was. */
+ *   0: registers and memory are those after the instruction, and PC may now be 0. cycles: those of the instruction.
+ *   GATE_FINISHED, a trap or a refusal: registers come back as they were read, and memory is as it was. cycles: 0. */
 uint8_t gate_step(const uint8_t *image, size_t image_length,
                   const struct gate_limits *limits,
                   uint8_t *memory, size_t memory_length,
-                  uint32_t registers[GATE_REGISTERS]);
+                  uint32_t registers[GATE_REGISTERS], uint64_t cycles[1]);
 
 /* Makes steps until the routine finishes, traps or budget steps are made. The answer is GATE_FINISHED, GATE_SPENT, a trap, or a
- * refusal (17, 1 to 4). steps: the number of steps made, the trapping one not counted; 0 where refused. Registers are read as in
- * gate_step.
+ * refusal (17, 1 to 4). steps: the number of steps made, the trapping one not counted; 0 where refused. cycles: the sum over the
+ * steps made, so 0 where none was made or the call is refused. It never wraps, since no instruction takes more than 4 cycles and a
+ * budget has 32 bits. Registers are read as in gate_step.
  *   GATE_FINISHED: registers and memory are those after the last step made, and PC is 0.
  *   GATE_SPENT: the same, with PC not 0 and steps equal to budget. A call with these registers and this memory goes on.
  *   a trap: the same, from before the trapping step, which changed nothing. PC is where it stands.
@@ -132,14 +140,15 @@ uint8_t gate_run(const uint8_t *image, size_t image_length,
                  const struct gate_limits *limits,
                  uint8_t *memory, size_t memory_length,
                  uint32_t registers[GATE_REGISTERS],
-                 uint32_t budget, uint32_t steps[1]);
+                 uint32_t budget, uint32_t steps[1], uint64_t cycles[1]);
 
 /* Decodes the instruction at the front of bytes. The answer is 0, 8 (outside the set) or 9 (the bytes end too soon). Loose bytes
  * have no version: the set is the whole one, CALLR included.
  * length: the instruction's bytes, 0 where there is none. text: the instruction as it stands at address, in the manual's
- * assembler notation, and 0 in every cell after it; all 0 where there is none. */
+ * assembler notation, and 0 in every cell after it; all 0 where there is none. cycles: not taken and taken, as the page prints
+ * them, for JRF too; a single figure stands in both cells; both are 0 where there is no instruction. */
 uint8_t gate_decode(const uint8_t *bytes, size_t bytes_length, uint16_t address,
-                    uint8_t text[GATE_TEXT_BYTES], size_t length[1]);
+                    uint8_t text[GATE_TEXT_BYTES], size_t length[1], uint8_t cycles[GATE_CYCLES]);
 
 #ifdef __cplusplus
 }

@@ -14,12 +14,14 @@ pub const SPENT: u8 = 65;
 pub type ReportCells = [u16; 3];
 /// The cells of a register set: A, X, Y, CC, SP, PC.
 pub type RegisterCells = [u32; 6];
+/// The cells of the cycles of an instruction: not taken, taken.
+pub type CycleCells = [u8; 2];
 
 // The library reads limits as six 16-bit cells.
 const _: () = assert!(size_of::<Limits>() == 6 * size_of::<u16>());
 
 mod c {
-    use super::{Limits, RegisterCells, ReportCells, TEXT_BYTES};
+    use super::{CycleCells, Limits, RegisterCells, ReportCells, TEXT_BYTES};
 
     // The archive is named by build.rs; the signatures are those of include/gate.h.
     extern "C" {
@@ -49,6 +51,7 @@ mod c {
             memory: *mut u8,
             memory_length: usize,
             registers: *mut RegisterCells,
+            cycles: *mut [u64; 1],
         ) -> u8;
         pub fn gate_run(
             image: *const u8,
@@ -59,6 +62,7 @@ mod c {
             registers: *mut RegisterCells,
             budget: u32,
             steps: *mut [u32; 1],
+            cycles: *mut [u64; 1],
         ) -> u8;
         pub fn gate_decode(
             bytes: *const u8,
@@ -66,6 +70,7 @@ mod c {
             address: u16,
             text: *mut [u8; TEXT_BYTES],
             length: *mut [usize; 1],
+            cycles: *mut CycleCells,
         ) -> u8;
     }
 }
@@ -101,9 +106,9 @@ pub fn start(
     }
 }
 
-pub fn step(image: &[u8], limits: &Limits, memory: &mut [u8], registers: &mut RegisterCells) -> u8 {
+pub fn step(image: &[u8], limits: &Limits, memory: &mut [u8], registers: &mut RegisterCells, cycles: &mut [u64; 1]) -> u8 {
     // SAFETY: as for `check`: every pointer comes with its length from one reference, and what is written from `&mut`.
-    unsafe { c::gate_step(image.as_ptr(), image.len(), limits, memory.as_mut_ptr(), memory.len(), registers) }
+    unsafe { c::gate_step(image.as_ptr(), image.len(), limits, memory.as_mut_ptr(), memory.len(), registers, cycles) }
 }
 
 pub fn run(
@@ -113,12 +118,15 @@ pub fn run(
     registers: &mut RegisterCells,
     budget: u32,
     steps: &mut [u32; 1],
+    cycles: &mut [u64; 1],
 ) -> u8 {
     // SAFETY: as for `check`: every pointer comes with its length from one reference, and what is written from `&mut`.
-    unsafe { c::gate_run(image.as_ptr(), image.len(), limits, memory.as_mut_ptr(), memory.len(), registers, budget, steps) }
+    unsafe {
+        c::gate_run(image.as_ptr(), image.len(), limits, memory.as_mut_ptr(), memory.len(), registers, budget, steps, cycles)
+    }
 }
 
-pub fn decode(bytes: &[u8], address: u16, text: &mut [u8; TEXT_BYTES], length: &mut [usize; 1]) -> u8 {
+pub fn decode(bytes: &[u8], address: u16, text: &mut [u8; TEXT_BYTES], length: &mut [usize; 1], cycles: &mut CycleCells) -> u8 {
     // SAFETY: as for `check`: every pointer comes with its length from one reference, and what is written from `&mut`.
-    unsafe { c::gate_decode(bytes.as_ptr(), bytes.len(), address, text, length) }
+    unsafe { c::gate_decode(bytes.as_ptr(), bytes.len(), address, text, length, cycles) }
 }

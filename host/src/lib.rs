@@ -13,7 +13,7 @@ mod types;
 
 pub use types::*;
 
-use cells::{RegisterCells, ReportCells};
+use cells::{CycleCells, RegisterCells, ReportCells};
 
 /// Checks an image under limits.
 ///
@@ -43,13 +43,14 @@ pub fn start(
     verdict(number, report)
 }
 
-/// Makes one step. Unless it is made, registers and memory stay as they were.
+/// Makes one step. Unless it is made, registers and memory stay as they were, and it takes no cycles.
 pub fn step(image: &[u8], limits: &Limits, memory: &mut [u8], registers: &mut Registers) -> Result<Step, Refusal> {
     let mut cells = registers.to_cells();
-    let number = cells::step(image, limits, memory, &mut cells);
+    let mut cycles = [0];
+    let number = cells::step(image, limits, memory, &mut cells, &mut cycles);
     *registers = Registers::from_cells(&cells);
     match number {
-        cells::OK => Ok(Step::Made),
+        cells::OK => Ok(Step::Made { cycles: cycles[0] }),
         cells::FINISHED => Ok(Step::Finished),
         _ => trap_or_refusal(number).map(Step::Trapped),
     }
@@ -58,15 +59,15 @@ pub fn step(image: &[u8], limits: &Limits, memory: &mut [u8], registers: &mut Re
 /// Makes steps until the routine finishes, traps or `budget` steps are made.
 pub fn run(image: &[u8], limits: &Limits, memory: &mut [u8], registers: &mut Registers, budget: u32) -> Result<Run, Refusal> {
     let mut cells = registers.to_cells();
-    let mut steps = [0];
-    let number = cells::run(image, limits, memory, &mut cells, budget, &mut steps);
+    let (mut steps, mut cycles) = ([0], [0]);
+    let number = cells::run(image, limits, memory, &mut cells, budget, &mut steps, &mut cycles);
     *registers = Registers::from_cells(&cells);
     let ending = match number {
         cells::FINISHED => Ending::Finished,
         cells::SPENT => Ending::Spent,
         _ => Ending::Trapped(trap_or_refusal(number)?),
     };
-    Ok(Run { ending, steps: steps[0] })
+    Ok(Run { ending, steps: steps[0], cycles: cycles[0] })
 }
 
 /// Decodes the instruction at the front of `bytes`, which are of no image: by the whole set, CALLR included. Its text is that of
@@ -74,8 +75,9 @@ pub fn run(image: &[u8], limits: &Limits, memory: &mut [u8], registers: &mut Reg
 pub fn decode(bytes: &[u8], address: u16) -> Result<Decoded, Refusal> {
     let mut text = [0; TEXT_BYTES];
     let mut length = [0];
-    match cells::decode(bytes, address, &mut text, &mut length) {
-        cells::OK => Ok(Decoded { length: length[0], text: Text(text) }),
+    let mut cycles = CycleCells::default();
+    match cells::decode(bytes, address, &mut text, &mut length, &mut cycles) {
+        cells::OK => Ok(Decoded { length: length[0], text: Text(text), cycles: Cycles::from_cells(&cycles) }),
         number => Err(refusal(number)),
     }
 }
@@ -90,6 +92,17 @@ impl Registers {
     pub fn from_cells(cells: &RegisterCells) -> Registers {
         let [a, x, y, cc, sp, pc] = *cells;
         Registers { a: a as u8, x: x as u16, y: y as u16, cc: cc as u8, sp: sp as u16, pc }
+    }
+}
+
+impl Cycles {
+    /// The cycle array of the C interface.
+    pub fn to_cells(&self) -> CycleCells {
+        [self.untaken, self.taken]
+    }
+
+    pub fn from_cells(&[untaken, taken]: &CycleCells) -> Cycles {
+        Cycles { untaken, taken }
     }
 }
 

@@ -174,9 +174,12 @@ impl From<Refusal> for Refused {
 /// A step's answer.
 #[derive(Clone, Copy, Debug, PartialEq, Eq)]
 pub enum Step {
-    Made,
-    /// It began at PC 0, and changed nothing.
+    Made {
+        cycles: u64,
+    },
+    /// It began at PC 0, changed nothing, and took no cycles.
     Finished,
+    /// It took no cycles.
     Trapped(Trap),
 }
 
@@ -195,13 +198,24 @@ pub struct Run {
     pub ending: Ending,
     /// The steps made, the trapping one not counted.
     pub steps: u32,
+    /// The sum of those of the steps made.
+    pub cycles: u64,
 }
 
-/// An instruction's length and text.
+/// An instruction's length, text and cycles.
 #[derive(Clone, Copy, Debug, PartialEq, Eq)]
 pub struct Decoded {
     pub length: usize,
     pub text: Text,
+    pub cycles: Cycles,
+}
+
+/// An instruction's cycles, as the manual's page prints them: where a jump is not taken and where it is, and the same figure twice
+/// where one is printed. Wait states and pipeline stalls are not counted.
+#[derive(Clone, Copy, Debug, PartialEq, Eq)]
+pub struct Cycles {
+    pub untaken: u8,
+    pub taken: u8,
 }
 
 /// A short ASCII text with zeros after it.

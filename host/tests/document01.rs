@@ -2,8 +2,10 @@
 //! library and through the twin. Tables and steps are tried in either version, for none of them has CALLR.
 
 mod both;
+mod checks;
 
-use both::{accepted, assembled, check, check_and_marks, refused, BEGIN, BLANK, LIMITS};
+use both::{assembled, run, BEGIN, LIMITS};
+use checks::{accepted, check, check_and_marks, refused, BLANK};
 use gate_host::{slu, twin, Area, Ending, Limits, Refusal, Registers, Run, Step, Trap, MARKS_ENOUGH, MEMORY_BYTES};
 
 /// A second grant in data EEPROM.
@@ -313,10 +315,10 @@ fn start_and_run() {
     assert_eq!(gate_host::start(&file, &LIMITS, &mut marks, &mut memory, &mut registers), accepted(2, 3));
     assert_eq!(registers, Registers { sp: 0x03FD, pc: 0x8000, ..given });
     assert_eq!((memory[0x03FD], memory[0x03FE], memory[0x03FF]), (0xAA, 0, 0));
-    let run = gate_host::run(&file, &LIMITS, &mut memory, &mut registers, 2);
-    assert_eq!(run, Ok(Run { ending: Ending::Spent, steps: 2 }));
-    let run = gate_host::run(&file, &LIMITS, &mut memory, &mut registers, 9);
-    assert_eq!(run, Ok(Run { ending: Ending::Finished, steps: 1 }));
+    let (spent, registers, memory) = run(&file, &LIMITS, registers, &memory, 2);
+    assert_eq!(spent, Ok(Run { ending: Ending::Spent, steps: 2, cycles: 2 }));
+    let (finished, mut registers, mut memory) = run(&file, &LIMITS, registers, &memory, 9);
+    assert_eq!(finished, Ok(Run { ending: Ending::Finished, steps: 1, cycles: 4 }));
     assert_eq!(registers, Registers { a: 5, cc: 0, sp: 0x03FF, pc: 0, ..given });
     assert_eq!(memory[0x10], 5);
     assert_eq!(gate_host::step(&file, &LIMITS, &mut memory, &mut registers), Ok(Step::Finished));
@@ -351,7 +353,7 @@ fn is_allowed(limits: &Limits, address: u16, bytes: usize) -> bool {
     let allowed = verdict == accepted(2, 2);
     if allowed {
         memory[usize::from(address)..][..bytes].copy_from_slice(&[0x5A, 0xA5][..bytes]);
-        assert_eq!(answer, Step::Made);
+        assert!(matches!(answer, Step::Made { .. }), "{answer:?}");
     } else {
         assert_eq!(verdict, refused(12, 0));
         assert_eq!((answer, after), (Step::Trapped(Trap::Store), given));
@@ -471,7 +473,7 @@ fn direct_stores_of_every_kind() {
 fn steps_of_document_01() {
     let memory = vec![0; MEMORY_BYTES];
     let made = |code: &[u8], registers| match step(code, registers, &memory) {
-        (Step::Made, after, _) => after,
+        (Step::Made { .. }, after, _) => after,
         other => panic!("{:?}", other.0),
     };
     let add = made(&[0xAB, 0x94], Registers { a: 0xB5, ..BEGIN });

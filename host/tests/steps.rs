@@ -49,7 +49,7 @@ fn recorded_steps() {
         }
         let mut after = registers(&record[6..]);
         let answer = twin::step(&image_of(record), &LIMITS, &mut memory, &mut after);
-        assert_eq!(answer, Ok(Step::Made), "record {number}: {record:02X?}");
+        assert!(matches!(answer, Ok(Step::Made { .. })), "record {number}: {answer:?}, {record:02X?}");
         assert_eq!(after, registers(&record[29..]), "record {number}: {record:02X?}");
         assert!(memory == expected, "memory after record {number}: {record:02X?}");
     }

@@ -1,8 +1,10 @@
 //! W-212: SLU version 0002 leaves CALLR out of the set, and changes nothing else. Through the library and through the twin.
 
 mod both;
+mod checks;
 
-use both::{accepted, assembled, check, check_and_marks, refused, step, Verdict, BEGIN, BLANK, LIMITS};
+use both::{assembled, run, step, BEGIN, LIMITS};
+use checks::{accepted, check, check_and_marks, refused, Verdict, BLANK};
 use gate_host::{slu, twin, Ending, Refusal, Registers, Run, Step, Trap, MARKS_ENOUGH, MEMORY_BYTES};
 
 /// A call by CALLR, after a routine that is RET alone.
@@ -22,7 +24,7 @@ fn two_versions_alone() {
     for version in [1, 2] {
         let file = assembled(version, "9D 81");
         assert_eq!(check(&file, &LIMITS, 2), accepted(2, 2));
-        assert_eq!(step(&file, &LIMITS, BEGIN, &memory).0, Ok(Step::Made));
+        assert_eq!(step(&file, &LIMITS, BEGIN, &memory).0, Ok(Step::Made { cycles: 1 }));
     }
     for version in [0x0000, 0x0003, 0x0004, 0x0100, 0x0101, 0x0102, 0x0200, 0x0201, 0x8002, 0xFF01, 0xFFFF] {
         let file = assembled(version, "9D 81");
@@ -30,10 +32,9 @@ fn two_versions_alone() {
         let (answer, after, left) = step(&file, &LIMITS, BEGIN, &memory);
         assert_eq!((answer, after), (Err(Refusal::Version), BEGIN), "{version:04X}");
         assert!(left == memory);
-        let mut registers = BEGIN;
-        assert_eq!(gate_host::run(&file, &LIMITS, &mut left.clone(), &mut registers, 9), Err(Refusal::Version));
-        assert_eq!(twin::run(&file, &LIMITS, &mut left.clone(), &mut registers, 9), Err(Refusal::Version));
-        assert_eq!(registers, BEGIN);
+        let (answer, after, left) = run(&file, &LIMITS, BEGIN, &memory, 9);
+        assert_eq!((answer, after), (Err(Refusal::Version), BEGIN), "{version:04X}");
+        assert!(left == memory);
     }
 }
 
@@ -147,7 +148,7 @@ fn callr_in_a_step() {
     let memory = vec![0xAA; MEMORY_BYTES];
     let at_call = Registers { pc: 0x8001, ..BEGIN };
     let (answer, after, left) = step(&assembled(1, CALLR), &LIMITS, at_call, &memory);
-    assert_eq!((answer, after), (Ok(Step::Made), Registers { sp: 0x03FB, pc: 0x8000, ..at_call }));
+    assert_eq!((answer, after), (Ok(Step::Made { cycles: 4 }), Registers { sp: 0x03FB, pc: 0x8000, ..at_call }));
     assert_eq!(left[0x03FC..0x03FE], [0x80, 0x03]);
     assert_eq!(trapped(&assembled(2, CALLR), at_call), Trap::Outside);
     // 21, PC outside the code, and finished come first.
@@ -161,7 +162,7 @@ fn callr_in_a_step() {
         assert_eq!(step(&assembled(version, "A6 AD"), &LIMITS, BEGIN, &memory).1.a, 0xAD);
     }
     // An operand is an op-code where PC is at it.
-    assert_eq!(step(&assembled(1, "A6 AD FE"), &LIMITS, at_call, &memory).0, Ok(Step::Made));
+    assert_eq!(step(&assembled(1, "A6 AD FE"), &LIMITS, at_call, &memory).0, Ok(Step::Made { cycles: 4 }));
     assert_eq!(trapped(&assembled(2, "A6 AD FE"), at_call), Trap::Outside);
 }
 
@@ -185,18 +186,14 @@ fn callr_in_a_step_that_version_0001_traps() {
 
 #[test]
 fn callr_in_a_run() {
-    let at_main = Registers { pc: 0x8001, ..BEGIN };
-    for run in [gate_host::run, twin::run] {
-        let (mut memory, mut registers) = (vec![0; MEMORY_BYTES], at_main);
-        let finished = run(&assembled(1, "81 | 9D AD FC 81"), &LIMITS, &mut memory, &mut registers, 9);
-        assert_eq!(finished, Ok(Run { ending: Ending::Finished, steps: 4 }));
-        assert_eq!(registers, Registers { sp: 0x03FF, pc: 0, ..BEGIN });
-        let (mut memory, mut registers) = (vec![0; MEMORY_BYTES], at_main);
-        let trapped = run(&assembled(2, "81 | 9D AD FC 81"), &LIMITS, &mut memory, &mut registers, 9);
-        assert_eq!(trapped, Ok(Run { ending: Ending::Trapped(Trap::Outside), steps: 1 }));
-        assert_eq!(registers, Registers { pc: 0x8002, ..BEGIN });
-        assert!(memory.iter().all(|&byte| byte == 0));
-    }
+    let (at_main, memory) = (Registers { pc: 0x8001, ..BEGIN }, vec![0; MEMORY_BYTES]);
+    let (finished, registers, _) = run(&assembled(1, "81 | 9D AD FC 81"), &LIMITS, at_main, &memory, 9);
+    assert_eq!(finished, Ok(Run { ending: Ending::Finished, steps: 4, cycles: 1 + 4 + 4 + 4 }));
+    assert_eq!(registers, Registers { sp: 0x03FF, pc: 0, ..BEGIN });
+    let (trapped, registers, left) = run(&assembled(2, "81 | 9D AD FC 81"), &LIMITS, at_main, &memory, 9);
+    assert_eq!(trapped, Ok(Run { ending: Ending::Trapped(Trap::Outside), steps: 1, cycles: 1 }));
+    assert_eq!(registers, Registers { pc: 0x8002, ..BEGIN });
+    assert!(left == memory);
 }
 
 /// Loose bytes are of no version.

@@ -1,6 +1,8 @@
 // Runs the codec at the borders of the gate set, a line a case: instructions to encode, with the number, the length and the five bytes; loose bytes to
-// decode, by the map's own lengths and by lent tables, with the number and the length. A number is 0 where there is an instruction.
+// decode, by the map's own lengths and by lent tables, with the number and the length, and in each way of decoding with the cycles not taken and
+// taken. A number is 0 where there is an instruction.
 use code::lengths_of;
+use cycles::Timed;
 use libc::STDOUT_FILENO;
 use stm8::AluOp;
 use stm8::BitOp;
@@ -11,6 +13,10 @@ use stm8::ModifyOp;
 use stm8::Offset;
 use stm8::Operand;
 use stm8::Register;
+use timing::decode_timed;
+use timing::decode_timed_at;
+use timing::decode_timed_by;
+use timing::decode_timed_for;
 
 fn print_number(label: &[u8], number: u64) {
     io::write_all(STDOUT_FILENO, label);
@@ -60,6 +66,17 @@ fn decode_by(label: &[u8], bytes: &[u8], lengths: &[[u8; 256]; 3]) {
     io::write_all(STDOUT_FILENO, label);
     io::write_all(STDOUT_FILENO, b": ");
     print_decoded(decoder::decode_by(bytes, lengths));
+    io::write_all(STDOUT_FILENO, b"\n");
+}
+
+fn print_timed(label: &[u8], timed: Timed) {
+    let decoded = timed.decoded;
+    let cycles = timed.cycles;
+    io::write_all(STDOUT_FILENO, label);
+    io::write_all(STDOUT_FILENO, b": ");
+    print_decoded(decoded);
+    print_number(b", cycles ", cycles.untaken as u64);
+    print_number(b" ", cycles.taken as u64);
     io::write_all(STDOUT_FILENO, b"\n");
 }
 
@@ -161,6 +178,32 @@ fn by_tables() {
     decode_by(b"8E by a table with it", b"\x8E", &lengths);
 }
 
+// Both figures are 0 where there is no instruction.
+fn with_cycles() {
+    let second = lengths_of(2);
+    print_timed(b"8E", decode_timed(b"\x8E"));
+    print_timed(b"A6", decode_timed(b"\xA6"));
+    print_timed(b"72 01 00 10 FB", decode_timed(b"\x72\x01\x00\x10\xFB"));
+    print_timed(
+        b"CD 80 00 by the tables of version 0002",
+        decode_timed_by(b"\xCD\x80\x00", &second),
+    );
+    print_timed(
+        b"AD 05 by the tables of version 0002",
+        decode_timed_by(b"\xAD\x05", &second),
+    );
+    print_timed(b"AD 05 in version 0001", decode_timed_for(1, b"\xAD\x05"));
+    print_timed(b"AD 05 in version 0002", decode_timed_for(2, b"\xAD\x05"));
+    print_timed(
+        b"9D 26 FE from 1 to 3",
+        decode_timed_at(2, b"\x9D\x26\xFE", 1, 3),
+    );
+    print_timed(
+        b"9D 26 FE from 1 to 2",
+        decode_timed_at(2, b"\x9D\x26\xFE", 1, 2),
+    );
+}
+
 fn main() {
     bit_positions();
     forms();
@@ -168,4 +211,5 @@ fn main() {
     outside_the_set();
     by_version();
     by_tables();
+    with_cycles();
 }

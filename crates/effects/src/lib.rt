@@ -79,7 +79,8 @@ fn modify_place(o: ModifyOp, x: Operand) -> Place
     }
 }
 
-fn falls_through(o: Condition) -> bool
+// Whether control may fall through a jump: past JRA it never does.
+pub fn falls_through(o: Condition) -> bool
     ensures { λ r. ⌜ r ≡ fallsThrough o ⌝ }
 {
     match o {

@@ -38,3 +38,9 @@ pub struct Stepped {
     pub answer: StepAnswer,
     pub registers: Registers,
 }
+
+// A step with its cycles: 0 unless it was made.
+pub struct TimedStep {
+    pub stepped: Stepped,
+    pub cycles: u64,
+}

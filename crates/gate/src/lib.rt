@@ -20,6 +20,8 @@ pub use machine::Registers;
 pub use machine::RunAnswer;
 pub use machine::StepAnswer;
 pub use machine::Stepped;
+pub use machine::TimedRun;
+pub use machine::TimedStep;
 pub use machine::run;
 pub use machine::run_number;
 pub use machine::step;

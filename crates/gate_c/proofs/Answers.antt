@@ -9,6 +9,7 @@ use Rattle.acceptance.specs.Check.{checked}
 use Rattle.rules.specs.declared.Verdict.{Verdict}
 use Rattle.machine.specs.Step.{stepped, stepNumber}
 use Rattle.machine.specs.Run.{ran, runNumber}
+use Rattle.machine.specs.Cycles.{stepCycles, runCycles}
 use Rattle.execution.specs.declared.Registers.{Registers}
 use Rattle.execution.specs.declared.Stepped.{Stepped}
 use Rattle.machine.specs.declared.Ran.{Ran}
@@ -45,22 +46,23 @@ started-by image marks marks′ memory memory′ cells limits limits′ given s 
     let by-cells = rw (same-limits, same-registers) at e in
     (rw (by-cells, n, r, o .0), rw by-cells (o .1))
 
-pub stepped-by : (image memory memory′ cells : List ℕ) (limits limits′ : Limits) (given : Registers) (s : Stepped) (number : ℕ) (out : List ℕ) →
-    limits ≡ limits′ → given ≡ registersIn cells → stepped image limits given memory ≡ (s, memory′) →
+pub stepped-by : (image memory memory′ cells : List ℕ) (limits limits′ : Limits) (given : Registers) (s : Stepped) (number cycles : ℕ) (out : List ℕ) →
+    limits ≡ limits′ → given ≡ registersIn cells → stepped image limits given memory ≡ (s, memory′) → cycles ≡ stepCycles image limits given memory →
     number ≡ stepNumber (s .answer) → (out ≡ registerCells (s .registers)) × (registersIn out ≡ s .registers) →
-    (steppedCells image limits′ cells memory ≡ record { number = number; registers = out; memory = memory′ })
+    (steppedCells image limits′ cells memory ≡ record { number = number; registers = out; cycles = cycles ∷ []; memory = memory′ })
     × (registersIn out ≡ stepped image limits′ (registersIn cells) memory .0 .registers)
 unfolding steppedCells
-stepped-by image memory memory′ cells limits limits′ given s number out same-limits same-registers e n o =
+stepped-by image memory memory′ cells limits limits′ given s number cycles out same-limits same-registers e k n o =
     let by-cells = rw (same-limits, same-registers) at e in
-    (rw (by-cells, n, o .0), rw by-cells (o .1))
+    (rw (by-cells, n, o .0, rw (same-limits, same-registers) at k), rw by-cells (o .1))
 
-pub ran-by : (budget : ℕ) (image memory memory′ cells : List ℕ) (limits limits′ : Limits) (given : Registers) (r : Ran) (number : ℕ) (out steps : List ℕ) →
+pub ran-by : (budget : ℕ) (image memory memory′ cells : List ℕ) (limits limits′ : Limits) (given : Registers) (r : Ran) (number cycles : ℕ) (out steps : List ℕ) →
     limits ≡ limits′ → given ≡ registersIn cells → ran budget image limits given memory ≡ (r, memory′) →
+    cycles ≡ runCycles budget image limits given memory →
     number ≡ runNumber (r .answer) → (out ≡ registerCells (r .registers)) × (registersIn out ≡ r .registers) → steps ≡ r .steps ∷ [] →
-    (ranCells budget image limits′ cells memory ≡ record { number = number; registers = out; steps = steps; memory = memory′ })
+    (ranCells budget image limits′ cells memory ≡ record { number = number; registers = out; steps = steps; cycles = cycles ∷ []; memory = memory′ })
     × (registersIn out ≡ ran budget image limits′ (registersIn cells) memory .0 .registers)
 unfolding ranCells
-ran-by budget image memory memory′ cells limits limits′ given r number out steps same-limits same-registers e n o s =
+ran-by budget image memory memory′ cells limits limits′ given r number cycles out steps same-limits same-registers e k n o s =
     let by-cells = rw (same-limits, same-registers) at e in
-    (rw (by-cells, n, o .0, s), rw by-cells (o .1))
+    (rw (by-cells, n, o .0, s, rw (same-limits, same-registers) at k), rw by-cells (o .1))

@@ -8,11 +8,13 @@ use Rattle.rules.specs.Outcome.{valuesOf}
 use Rattle.rules.specs.declared.Verdict.{Verdict}
 use Rattle.machine.specs.Step.{stepped, stepNumber}
 use Rattle.machine.specs.Run.{ran, runNumber}
+use Rattle.machine.specs.Cycles.{stepCycles, runCycles}
 use Rattle.gate.specs.Start.{Result, started}
 use Rattle.execution.specs.declared.Registers.{Registers}
 use Rattle.stm8.specs.declared.Instruction.{Instruction}
 use Rattle.stm8.specs.declared.Decoded.{Decoded}
 use Rattle.stm8.specs.declared.Decoded.the-variants.{Found, Outside, Truncated}
+use Rattle.cycles.specs.Timed.{cyclesOf}
 use Rattle.disassembly.specs.Text.{text}
 
 -- limits: low and high of the grant, of the stack and of the second grant
@@ -55,6 +57,10 @@ textCells address (Found i n) = instructionText address i
 textCells address Outside = replicate 24 0
 textCells address Truncated = replicate 24 0
 
+-- its cycles, not taken and taken
+abbrev pub cycleCells : Decoded → List ℕ
+cycleCells d = cyclesOf d .untaken ∷ cyclesOf d .taken ∷ []
+
 -- what a call answers, and every cell that it may write
 pub record StartCells : Type 0 where
   pub number : ℕ
@@ -81,20 +87,33 @@ startedCells image limits marks memory cells =
 pub record StepCells : Type 0 where
   pub number : ℕ
   pub registers : List ℕ
+  pub cycles : List ℕ
   pub memory : List ℕ
 
 unfoldable pub steppedCells : List ℕ → Limits → List ℕ → List ℕ → StepCells
 steppedCells image limits cells memory =
     let s = stepped image limits (registersIn cells) memory in
-    record { number = stepNumber (s .0 .answer); registers = registerCells (s .0 .registers); memory = s .1 }
+    record {
+      number = stepNumber (s .0 .answer);
+      registers = registerCells (s .0 .registers);
+      cycles = stepCycles image limits (registersIn cells) memory ∷ [];
+      memory = s .1;
+    }
 
 pub record RunCells : Type 0 where
   pub number : ℕ
   pub registers : List ℕ
   pub steps : List ℕ
+  pub cycles : List ℕ
   pub memory : List ℕ
 
 unfoldable pub ranCells : ℕ → List ℕ → Limits → List ℕ → List ℕ → RunCells
 ranCells budget image limits cells memory =
     let r = ran budget image limits (registersIn cells) memory in
-    record { number = runNumber (r .0 .answer); registers = registerCells (r .0 .registers); steps = r .0 .steps ∷ []; memory = r .1 }
+    record {
+      number = runNumber (r .0 .answer);
+      registers = registerCells (r .0 .registers);
+      steps = r .0 .steps ∷ [];
+      cycles = runCycles budget image limits (registersIn cells) memory ∷ [];
+      memory = r .1;
+    }

@@ -7,8 +7,7 @@ ghost use Rattle.machine.specs.Run.{ran};
 ghost use Rattle.stm8.specs.Decoding.{decoded, decodingNumber};
 ghost use mathlib.Core.List.{[], _∷_};
 ghost use Rattle.gate_c.specs.Cells.{limitsIn, registersIn, registerCells, reportCells};
-ghost use Rattle.gate_c.specs.Cells.{decodedLength, textCells, startedBy, startedCells, steppedCells, ranCells};
-use code::decode_for;
+ghost use Rattle.gate_c.specs.Cells.{decodedLength, textCells, cycleCells, startedBy, startedCells, steppedCells, ranCells};
 use decoder::decoding_number;
 use disassembly::disassemble;
 use gate::Area;
@@ -23,6 +22,7 @@ use gate::step;
 use gate::step_number;
 use rules::verdict_number;
 use stm8::Decoded;
+use timing::decode_timed_for;
 
 fn limits_in(cells: &[u16; 6]) -> Limits
     ensures { λ r. ⌜ r ≡ limitsIn (now (cells .entry)) ⌝ }
@@ -143,17 +143,20 @@ pub extern "C" fn gate_step(
     limits: &[u16; 6],
     memory: &mut [u8],
     registers: &mut [u32; 6],
+    cycles: &mut [u64; 1],
 ) -> u8
     ensures { λ r. ⌜
         steppedCells (now (image .entry)) (limitsIn (now (limits .entry))) (now (registers .entry)) (now (memory .entry)) ≡
-        record { number = r; registers = now (registers .exit); memory = now (memory .exit) } ⌝ }
+        record { number = r; registers = now (registers .exit); cycles = now (cycles .exit); memory = now (memory .exit) } ⌝ }
     ensures { λ _. ⌜ registersIn (now (registers .exit)) ≡
         stepped (now (image .entry)) (limitsIn (now (limits .entry)))
         (registersIn (now (registers .entry))) (now (memory .entry)) .0 .registers ⌝ }
 {
-    let s = step(image, limits_in(limits), registers_in(registers), memory);
-    let answer = s.answer;
-    *registers = register_cells(s.registers);
+    let timed = step(image, limits_in(limits), registers_in(registers), memory);
+    let stepped = timed.stepped;
+    let answer = stepped.answer;
+    *registers = register_cells(stepped.registers);
+    *cycles = [timed.cycles];
     step_number(answer)
 }
 
@@ -166,24 +169,33 @@ pub extern "C" fn gate_run(
     registers: &mut [u32; 6],
     budget: u32,
     steps: &mut [u32; 1],
+    cycles: &mut [u64; 1],
 ) -> u8
     ensures { λ r. ⌜
         ranCells budget (now (image .entry)) (limitsIn (now (limits .entry))) (now (registers .entry)) (now (memory .entry)) ≡
-        record { number = r; registers = now (registers .exit); steps = now (steps .exit); memory = now (memory .exit) } ⌝ }
+        record {
+          number = r;
+          registers = now (registers .exit);
+          steps = now (steps .exit);
+          cycles = now (cycles .exit);
+          memory = now (memory .exit);
+        } ⌝ }
     ensures { λ _. ⌜ registersIn (now (registers .exit)) ≡
         ran budget (now (image .entry)) (limitsIn (now (limits .entry)))
         (registersIn (now (registers .entry))) (now (memory .entry)) .0 .registers ⌝ }
 {
-    let ran = run(
+    let timed = run(
         image,
         limits_in(limits),
         registers_in(registers),
         memory,
         budget,
     );
+    let ran = timed.ran;
     let answer = ran.answer;
     *registers = register_cells(ran.registers);
     *steps = [ran.steps];
+    *cycles = [timed.cycles];
     run_number(answer)
 }
 
@@ -211,21 +223,26 @@ fn decoded_length(found: Decoded) -> usize
     }
 }
 
-// Decodes the instruction at the front of bytes, with its text as it stands at an address.
+// Decodes the instruction at the front of bytes, with its text as it stands at an address, and its cycles.
 #[no_mangle]
 pub extern "C" fn gate_decode(
     bytes: &[u8],
     address: u16,
     text: &mut [u8; 24],
     length: &mut [usize; 1],
+    cycles: &mut [u8; 2],
 ) -> u8
     ensures { λ r. ⌜ r ≡ decodingNumber (decoded (now (bytes .entry))) ⌝ }
     ensures { λ _. ⌜ now (text .exit) ≡ textCells address (decoded (now (bytes .entry))) ⌝ }
     ensures { λ _. ⌜ now (length .exit) ≡ decodedLength (decoded (now (bytes .entry))) ∷ [] ⌝ }
+    ensures { λ _. ⌜ now (cycles .exit) ≡ cycleCells (decoded (now (bytes .entry))) ⌝ }
 {
     // By version 0001, whose set is the whole one: then there is one caller of the decoder, and a run is the faster for it.
-    let found = decode_for(1, bytes);
+    let timed = decode_timed_for(1, bytes);
+    let found = timed.decoded;
+    let figures = timed.cycles;
     put_text(found, address, text);
     *length = [decoded_length(found)];
+    *cycles = [figures.untaken, figures.taken];
     decoding_number(found)
 }

@@ -1,8 +1,8 @@
 // Runs the cases of standard input, a line each: what the case is about, a colon, and in hexadecimal the limits (12 bytes) and the number of
 // marks (1); then 00 and the image for a check, or 01, the size of memory (2), A, X, Y and CC (6) and the image for a start. Every mark is 9
 // before. Prints what the case is about, the verdict and the marks after it. A start has a line more: the registers, the top three stack bytes and
-// two digests, of all memory and of the bytes outside the grants and the top `need` stack bytes. Where it is accepted, two lines tell the steps made
-// and the same after a run to the end, in one piece and, on a memory like the first, in pieces of 1, 2, 3 and 7 steps with a single step
+// two digests, of all memory and of the bytes outside the grants and the top `need` stack bytes. Where it is accepted, two lines tell the steps made,
+// their cycles and the same after a run to the end, in one piece and, on a memory like the first, in pieces of 1, 2, 3 and 7 steps with a single step
 // after each. No contract can speak of what is printed.
 ghost use mathlib.Core.Path.{_≡_};
 ghost use mathlib.Core.Bool.{false, cond};
@@ -33,6 +33,7 @@ use vectors::word_text;
 struct Progress {
     registers: Registers,
     steps: u64,
+    cycles: u64,
 }
 
 fn print(text: &[u8]) {
@@ -192,14 +193,17 @@ fn steps_of(answer: StepAnswer) -> u64
 fn piece(image: &[u8], limits: Limits, from: Registers, memory: &mut [u8], k: u32) -> Progress
     ensures { λ r. ⌜ length (now (memory .exit)) ≡ length (now (memory .entry)) ⌝ }
 {
-    let ran = gate::run(image, limits, from, memory, budget(k));
+    let first = gate::run(image, limits, from, memory, budget(k));
+    let ran = first.ran;
     let between = ran.registers;
-    let stepped = gate::step(image, limits, between, memory);
+    let last = gate::step(image, limits, between, memory);
+    let stepped = last.stepped;
     let answer = stepped.answer;
     let registers = stepped.registers;
     Progress {
         registers,
         steps: ran.steps as u64 + steps_of(answer),
+        cycles: wrapping_add_u64(first.cycles, last.cycles),
     }
 }
 
@@ -209,17 +213,23 @@ fn pieces(image: &[u8], limits: Limits, from: Registers, memory: &mut [u8]) -> P
 {
     let mut registers = from;
     let mut steps = 0;
+    let mut cycles = 0;
     let mut k = 0;
     while k < 1000 {
         let next = piece(image, limits, registers, memory, k);
         registers = next.registers;
         steps = wrapping_add_u64(steps, next.steps);
+        cycles = wrapping_add_u64(cycles, next.cycles);
         k += 1;
         if registers.pc == 0 {
             break;
         }
     }
-    Progress { registers, steps }
+    Progress {
+        registers,
+        steps,
+        cycles,
+    }
 }
 
 // One run to the end, and a run in pieces on a memory like the first.
@@ -231,11 +241,14 @@ fn print_runs(
     memory: &mut [u8],
     other: &mut [u8],
 ) {
-    let ran = gate::run(image, limits, start, memory, 4294967295);
+    let timed = gate::run(image, limits, start, memory, 4294967295);
+    let ran = timed.ran;
     print_number(b"  whole, steps ", ran.steps as u64);
+    print_number(b", cycles ", timed.cycles);
     print_state(ran.registers, memory, limits, need);
     let cut = pieces(image, limits, start, other);
     print_number(b"  pieces, steps ", cut.steps);
+    print_number(b", cycles ", cut.cycles);
     print_state(cut.registers, other, limits, need);
 }
 

@@ -3,8 +3,10 @@ pub mod StepLaws
 pub mod EffectForms
 pub mod StepEffect
 pub mod RunLaws
+pub mod CycleLaws
 pub mod OnlyStep
 pub mod RunEnds
 pub mod RunParts
+pub mod RunCycles
 pub mod Numbers
 pub mod KeptBits

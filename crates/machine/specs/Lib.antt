@@ -1,4 +1,5 @@
 pub mod Step
 pub mod Run
+pub mod Cycles
 pub mod Changes
 pub mod Internal

@@ -6,10 +6,12 @@ mod traps;
 ghost use mathlib.Core.Path.{_≡_};
 ghost use Rattle.machine.specs.Step.{stepRefusal, stepped, stepNumber, StepNumbered};
 ghost use Rattle.machine.specs.Run.{ran, runNumber, RunNumbered};
+ghost use Rattle.machine.specs.Cycles.{stepCycles, runCycles};
 ghost use Rattle.machine.specs.Internal.{onlyStep};
 pub use execution::Registers;
 pub use execution::StepAnswer;
 pub use execution::Stepped;
+pub use execution::TimedStep;
 use image::Limits;
 use image::Validated;
 
@@ -26,6 +28,12 @@ pub struct Ran {
     pub steps: u32,
 }
 
+// A run with its cycles: the sum over the steps made.
+pub struct TimedRun {
+    pub ran: Ran,
+    pub cycles: u64,
+}
+
 // Steps until the routine finishes, traps or the steps are used up.
 pub fn run(
     image: &[u8],
@@ -33,9 +41,10 @@ pub fn run(
     registers: Registers,
     memory: &mut [u8],
     budget: u32,
-) -> Ran
-    ensures { λ r. ⌜ ran budget (now (image .entry)) limits registers (now (memory .entry)) ≡ (r, now (memory .exit)) ⌝ }
-    ensures { λ r. ⌜ RunNumbered (stepRefusal (now (image .entry)) limits (now (memory .entry))) (r .answer) ⌝ }
+) -> TimedRun
+    ensures { λ r. ⌜ ran budget (now (image .entry)) limits registers (now (memory .entry)) ≡ (r .ran, now (memory .exit)) ⌝ }
+    ensures { λ r. ⌜ RunNumbered (stepRefusal (now (image .entry)) limits (now (memory .entry))) (r .ran .answer) ⌝ }
+    ensures { λ r. ⌜ r .cycles ≡ runCycles budget (now (image .entry)) limits registers (now (memory .entry)) ⌝ }
 {
     let validated = stepping::validate(image, limits, memory);
     match validated {
@@ -64,11 +73,16 @@ fn only_step(ran: Ran) -> Stepped
 }
 
 // One step, from any registers and memory: a run of one, so that the run's loop alone holds the code of a step.
-pub fn step(image: &[u8], limits: Limits, registers: Registers, memory: &mut [u8]) -> Stepped
-    ensures { λ r. ⌜ stepped (now (image .entry)) limits registers (now (memory .entry)) ≡ (r, now (memory .exit)) ⌝ }
-    ensures { λ r. ⌜ StepNumbered (stepRefusal (now (image .entry)) limits (now (memory .entry))) (r .answer) ⌝ }
+pub fn step(image: &[u8], limits: Limits, registers: Registers, memory: &mut [u8]) -> TimedStep
+    ensures { λ r. ⌜ stepped (now (image .entry)) limits registers (now (memory .entry)) ≡ (r .stepped, now (memory .exit)) ⌝ }
+    ensures { λ r. ⌜ StepNumbered (stepRefusal (now (image .entry)) limits (now (memory .entry))) (r .stepped .answer) ⌝ }
+    ensures { λ r. ⌜ r .cycles ≡ stepCycles (now (image .entry)) limits registers (now (memory .entry)) ⌝ }
 {
-    only_step(run(image, limits, registers, memory, 1))
+    let timed = run(image, limits, registers, memory, 1);
+    TimedStep {
+        stepped: only_step(timed.ran),
+        cycles: timed.cycles,
+    }
 }
 
 // The number of a step's answer: 0 made, 64 finished, else document 01's.

@@ -6,10 +6,13 @@ ghost use Rattle.image.specs.Validation.{answer as answerOf};
 ghost use Rattle.image.specs.ValidLayout.{ValidLayout};
 ghost use Rattle.code.specs.Code.{instructionIn};
 ghost use Rattle.storage.specs.Storing.{spTrap};
+ghost use Rattle.execution.specs.Cycles.{costOf};
+ghost use Rattle.machine.specs.Cycles.{cyclesAt};
 ghost use Rattle.machine.specs.Step.{pcTrap, decodingTrap, decodedStep, stepValid, stepRefusal};
 use crate::Registers;
 use crate::StepAnswer;
 use crate::Stepped;
+use crate::TimedStep;
 use crate::traps::pc_trap;
 use crate::traps::sp_trap;
 use code::decode_at;
@@ -55,6 +58,13 @@ fn decoding_trap(decoded: Decoded) -> u8
     }
 }
 
+// A step that is not made costs no cycles.
+fn without_cycles(stepped: Stepped) -> TimedStep
+    ensures { λ r. ⌜ r ≡ record { stepped = stepped; cycles = 0 } ⌝ }
+{
+    TimedStep { stepped, cycles: 0 }
+}
+
 // The instruction at PC, which is in the code.
 fn step_inside(
     registers: Registers,
@@ -62,16 +72,17 @@ fn step_inside(
     layout: Layout,
     limits: Limits,
     memory: &mut [u8],
-) -> Stepped
+) -> TimedStep
     requires valid { ⌜ ValidLayout (now image) layout ⌝ }
     requires stack { ⌜ spTrap limits (registers .sp) ≡ 0 ⌝ }
     requires inside { ⌜ pcTrap (now image) (registers .pc) ≡ 0 ⌝ }
     ensures { λ r. ⌜ decodedStep (now (image .entry)) limits registers (now (memory .entry))
-        (instructionIn (now (image .entry)) (registers .pc - baseOf (now (image .entry)))) ≡ (r, now (memory .exit)) ⌝ }
+        (instructionIn (now (image .entry)) (registers .pc - baseOf (now (image .entry)))) ≡ (r .stepped, now (memory .exit)) ⌝ }
+    ensures { λ r. ⌜ r .cycles ≡ costOf (r .stepped .answer) (cyclesAt (now (image .entry)) registers (now (memory .entry))) ⌝ }
 {
     let decoded = fetch(image, layout, registers.pc);
     let Decoded::Found(i, n) = decoded else {
-        return registers.answer(StepAnswer::Trap(decoding_trap(decoded)));
+        return without_cycles(registers.answer(StepAnswer::Trap(decoding_trap(decoded))));
     };
     registers.step(image, limits, memory, i, registers.pc + n as u32)
 }
@@ -83,17 +94,18 @@ pub(crate) fn step_valid(
     layout: Layout,
     limits: Limits,
     memory: &mut [u8],
-) -> Stepped
+) -> TimedStep
     requires valid { ⌜ ValidLayout (now image) layout ⌝ }
-    ensures { λ r. ⌜ stepValid (now (image .entry)) limits registers (now (memory .entry)) ≡ (r, now (memory .exit)) ⌝ }
+    ensures { λ r. ⌜ stepValid (now (image .entry)) limits registers (now (memory .entry)) ≡ (r .stepped, now (memory .exit)) ⌝ }
+    ensures { λ r. ⌜ r .cycles ≡ costOf (r .stepped .answer) (cyclesAt (now (image .entry)) registers (now (memory .entry))) ⌝ }
 {
     let pc = registers.pc;
     if pc == 0 {
-        return registers.answer(StepAnswer::Finished);
+        return without_cycles(registers.answer(StepAnswer::Finished));
     }
     let trap = first(sp_trap(limits, registers.sp), pc_trap(layout, pc));
     if trap != 0 {
-        return registers.answer(StepAnswer::Trap(trap));
+        return without_cycles(registers.answer(StepAnswer::Trap(trap)));
     }
     step_inside(registers, image, layout, limits, memory)
 }

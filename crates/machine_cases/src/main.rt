@@ -1,7 +1,7 @@
 // Runs the cases of standard input, a line each: what the case is about, a colon, and in hexadecimal the limits (12 bytes), the size of memory
 // (2), the registers A, X, Y, CC, SP and PC (11), 00 for a step or 01 for a run (1), the run's budget (4), the image's length (1), the image, and the
-// cells of memory that are not 00, an address and a byte each. Prints what the case is about, the answer, the registers and those cells after it,
-// in hexadecimal but for counts, and at last how many cases there were. No contract can speak of what is printed.
+// cells of memory that are not 00, an address and a byte each. Prints what the case is about, the answer, the cycles, the registers and those cells
+// after it, in hexadecimal but for counts, and at last how many cases there were. No contract can speak of what is printed.
 ghost use mathlib.Core.Path.{_≡_};
 ghost use Prim.Native.Nat.{_≤_};
 ghost use lib.ListN.{length};
@@ -72,34 +72,38 @@ fn print_run_answer(answer: RunAnswer) {
     }
 }
 
-// A step from the case's registers: its answer is printed.
+// A step from the case's registers: its answer and its cycles are printed.
 fn step_case(case: &[u8], image: &[u8], memory: &mut [u8]) -> Registers
     requires { ⌜ 31 ≤ length (now case) ⌝ }
     ensures { λ r. ⌜ r ≡ stepOf (now (case .entry)) (now (image .entry)) (now (memory .entry)) .0 .registers ⌝ }
     ensures { λ r. ⌜ now (memory .exit) ≡ stepOf (now (case .entry)) (now (image .entry)) (now (memory .entry)) .1 ⌝ }
 {
-    let stepped = machine::step(image, limits_of(case), registers_of(&case[14..25]), memory);
+    let timed = machine::step(image, limits_of(case), registers_of(&case[14..25]), memory);
+    let stepped = timed.stepped;
     let answer = stepped.answer;
     print_step_answer(answer);
+    print_number(b", cycles ", timed.cycles);
     stepped.registers
 }
 
-// A run from them: its answer and the steps made are printed.
+// A run from them: its answer, the steps made and their cycles are printed.
 fn run_case(case: &[u8], image: &[u8], memory: &mut [u8]) -> Registers
     requires { ⌜ 31 ≤ length (now case) ⌝ }
     ensures { λ r. ⌜ r ≡ runOf (now (case .entry)) (now (image .entry)) (now (memory .entry)) .0 .registers ⌝ }
     ensures { λ r. ⌜ now (memory .exit) ≡ runOf (now (case .entry)) (now (image .entry)) (now (memory .entry)) .1 ⌝ }
 {
-    let ran = machine::run(
+    let timed = machine::run(
         image,
         limits_of(case),
         registers_of(&case[14..25]),
         memory,
         word_at(case, 26) as u32 * 65536 + word_at(case, 28) as u32,
     );
+    let ran = timed.ran;
     let answer = ran.answer;
     print_run_answer(answer);
     print_number(b" after ", ran.steps as u64);
+    print_number(b", cycles ", timed.cycles);
     ran.registers
 }
 

@@ -74,7 +74,8 @@ fn goes(
     ensures { λ r. ⌜ (r ≡ true → Goes (now (image .entry)) before (now (memory .entry)) after (now (expected .entry))) ⌝ }
 {
     let limits = limits_of(b"\x00\x00\x14\xFF\x16\x00\x17\xFF\xFF\xFF\x00\x00");
-    let stepped = machine::step(image, limits, before, memory);
+    let timed = machine::step(image, limits, before, memory);
+    let stepped = timed.stepped;
     let answer = stepped.answer;
     let StepAnswer::Made = answer else {
         return false;

@@ -5,3 +5,5 @@ pub mod DecodeEncoded
 pub mod EncodeDecoded
 pub mod Longer
 pub mod EffectLaws
+pub mod CycleLaws
+pub mod CycleMap

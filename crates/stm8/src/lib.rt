@@ -1,4 +1,4 @@
-// The instructions of the gate set. The op-code map, the bytes of an instruction and its effect stand in specs/.
+// The instructions of the gate set. The op-code map, the bytes of an instruction, its effect and its cycles stand in specs/.
 mod tables;
 
 pub use tables::map_lengths;
@@ -208,4 +208,10 @@ pub struct Effect {
     pub pushes: u8,
     pub place: Place,
     pub flow: Flow,
+}
+
+// The cycles of an instruction: where a branch is not taken, and where it is. What prints one figure has it in both.
+pub struct Cycles {
+    pub untaken: u8,
+    pub taken: u8,
 }

@@ -31,7 +31,9 @@ use Rattle.storage.specs.Reading as Reading
 use Rattle.storage.specs.Storing as Storing
 use Rattle.execution.specs.Computing as Computing
 use Rattle.execution.specs.Performing as Performing
+use Rattle.execution.specs.Cycles as InstructionCycles
 use Rattle.machine.specs.Step as Step
+use Rattle.machine.specs.Cycles as Cycles
 use Rattle.worked.specs.Cases.{outcome, expected, cases}
 
 pub all-hold : map outcome cases ≡ map expected cases
@@ -48,4 +50,5 @@ unfolding xor Bits.bit Checks.first Checks.both Checks.under Checks.unless Check
     Check.routineRefusing Check.routinesFrom Check.swept Check.codeChecked Check.checked
     Reading.readByte Computing.computed Storing.spTrap Step.pcTrap Storing.moveTrap Storing.storeTrap Storing.callTrap Performing.effectTrap Performing.pcAfter
     Storing.storedAt Storing.memoryAfter Performing.made Performing.performed Step.decodedStep Step.stepValid Step.stepRefusal Step.stepped
+    InstructionCycles.instructionCycles Cycles.cyclesAt Cycles.stepCycles
 all-hold = refl

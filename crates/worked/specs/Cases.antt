@@ -1,4 +1,4 @@
--- The cases that document 01 marks with ●, in its order, as W-202 has them, and W-202's, W-205's and W-212's own: one table. What it expects is held
+-- The cases that document 01 marks with ●, in its order, as W-202 has them, and W-202's, W-205's, W-212's and W-206's own: one table. What it expects is held
 -- against the definitions that the contracts of `check` and `step` cite.
 use Prim.Native.Nat.{ℕ}
 use mathlib.Core.List.{List, [], _∷_, _++_}
@@ -13,6 +13,7 @@ use Rattle.rules.specs.declared.Verdict.{Verdict}
 use Rattle.rules.specs.declared.Verdict.the-variants.{Accepted, Refused}
 use Rattle.execution.specs.Performing.{Result, result}
 use Rattle.machine.specs.Step.{stepped}
+use Rattle.machine.specs.Cycles.{stepCycles}
 use Rattle.execution.specs.declared.Registers.{Registers}
 use Rattle.execution.specs.declared.StepAnswer.the-variants.{Made, Trap}
 
@@ -61,25 +62,29 @@ abbrev pub registers : ℕ → ℕ → ℕ → ℕ → Registers
 registers a x cc pc = record { a = a; x = x; y = 0x0000; cc = cc; sp = 0x03FD; pc = pc }
 
 -- a case of the check: an image, limits and the verdict; or of the step: a routine's code, and the registers before and after it, or an image, the
--- registers and the trap
+-- registers and the trap; or of its cycles: a routine's code, the registers, and what the step costs
 pub data Case : Type 0 where
   checks : List ℕ → Limits → Verdict → Case
   steps : List ℕ → Registers → Registers → Case
   traps : List ℕ → Registers → ℕ → Case
+  costs : List ℕ → Registers → ℕ → Case
 
 pub data Outcome : Type 0 where
   verdict : Verdict → Outcome
   step : Result → Outcome
+  cost : ℕ → Outcome
 
 abbrev pub outcome : Case → Outcome
 outcome (checks image limits v) = verdict (checked image limits (marks image) .0)
 outcome (steps code before after) = step (stepped (routine code) usual before memory)
 outcome (traps image before number) = step (stepped image usual before memory)
+outcome (costs code before n) = cost (stepCycles (routine code) usual before memory)
 
 abbrev pub expected : Case → Outcome
 expected (checks image limits v) = verdict v
 expected (steps code before after) = step (result Made after memory)
 expected (traps image before number) = step (result (Trap number) before memory)
+expected (costs code before n) = cost n
 
 -- lengths 3 and 4
 abbrev pub twoRoutines : List ℕ
@@ -148,4 +153,19 @@ cases =
     -- E6 20 with X FFF0: A 00, Z 1
     steps (0xE6 ∷ 0x20 ∷ []) (registers 0xAA 0xFFF0 0b0000_0000 0x8000) (registers 0x00 0xFFF0 0b0000_0010 0x8002) ∷
     steps (0xE6 ∷ 0x20 ∷ []) (registers 0xAA 0xFFF0 0b1111_1111 0x8000) (registers 0x00 0xFFF0 0b1111_1011 0x8002) ∷
+    -- W-206: JREQ not taken, and taken to the next address; JRF and JRA
+    costs (0x27 ∷ 0x00 ∷ []) (registers 0x00 0x0000 0b0000_0000 0x8000) 1 ∷
+    costs (0x27 ∷ 0x00 ∷ []) (registers 0x00 0x0000 0b0000_0010 0x8000) 2 ∷
+    costs (0x21 ∷ 0x10 ∷ []) (registers 0x00 0x0000 0b1111_1111 0x8000) 1 ∷
+    costs (0x20 ∷ 0x10 ∷ []) (registers 0x00 0x0000 0b0000_0000 0x8000) 2 ∷
+    -- BTJT and BTJF with bit 0 of 0010 clear
+    costs (0x72 ∷ 0x00 ∷ 0x00 ∷ 0x10 ∷ 0x00 ∷ []) (registers 0x00 0x0000 0b0000_0000 0x8000) 2 ∷
+    costs (0x72 ∷ 0x01 ∷ 0x00 ∷ 0x10 ∷ 0x00 ∷ []) (registers 0x00 0x0000 0b0000_0000 0x8000) 3 ∷
+    -- INCW X and SUB SP, where the summary has 2; ADDW SP, here with SP at 03FD
+    costs (0x5C ∷ []) (registers 0x00 0x0000 0b0000_0000 0x8000) 1 ∷
+    costs (0x52 ∷ 0x01 ∷ []) (registers 0x00 0x0000 0b0000_0000 0x8000) 1 ∷
+    costs (0x5B ∷ 0x02 ∷ []) (registers 0x00 0x0000 0b0000_0000 0x8000) 2 ∷
+    -- a trap, 24, and a finished step
+    costs (0x5B ∷ 0x03 ∷ []) (registers 0x00 0x0000 0b0000_0000 0x8000) 0 ∷
+    costs (0x81 ∷ []) (registers 0x00 0x0000 0b0000_0000 0x0000) 0 ∷
     []

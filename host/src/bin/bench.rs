@@ -154,6 +154,7 @@ fn decodes() -> Task {
     let other = |bytes: &[u8], address: u16| {
         let (instruction, length) = twin::decode(bytes).expect("an instruction");
         black_box(twin::text(instruction, length, address));
+        black_box(instruction.cycles());
         length
     };
     let rounds = short_rounds(count, || sweep(&code, library), || sweep(&code, other));
@@ -342,7 +343,8 @@ fn runs(name: &'static str, workload: fn(u16) -> Workload) -> Task {
     let mut other = one.clone();
     let slice = |runner: Runner, (memory, registers): &mut (Vec<u8>, Registers)| {
         let run = runner(&file, &LIMITS, memory, registers, SLICE);
-        assert_eq!(run, Ok(Run { ending: Ending::Spent, steps: SLICE }));
+        // A library from before W-206 writes no cycles, and can be measured too.
+        assert!(matches!(run, Ok(Run { ending: Ending::Spent, steps: SLICE, .. })));
     };
     let round = |_| {
         let (mut library, mut twin) = (0.0, 0.0);

@@ -38,9 +38,9 @@ pub fn step(file: &[u8], limits: &Limits, memory: &mut [u8], registers: &mut Reg
         return Ok(Step::Finished);
     }
     Ok(match machine.step(*registers) {
-        Ok(after) => {
+        Ok((after, cycles)) => {
             *registers = after;
-            Step::Made
+            Step::Made { cycles }
         }
         Err(trap) => Step::Trapped(trap),
     })
@@ -49,7 +49,7 @@ pub fn step(file: &[u8], limits: &Limits, memory: &mut [u8], registers: &mut Reg
 /// Makes steps until the routine finishes, traps or `budget` steps are made.
 pub fn run(file: &[u8], limits: &Limits, memory: &mut [u8], registers: &mut Registers, budget: u32) -> Result<Run, Refusal> {
     let mut machine = Machine::new(file, limits, memory)?;
-    let mut steps = 0;
+    let (mut steps, mut sum) = (0, 0);
     let ending = loop {
         if registers.pc == 0 {
             break Ending::Finished;
@@ -58,12 +58,15 @@ pub fn run(file: &[u8], limits: &Limits, memory: &mut [u8], registers: &mut Regi
             break Ending::Spent;
         }
         match machine.step(*registers) {
-            Ok(after) => *registers = after,
+            Ok((after, cycles)) => {
+                *registers = after;
+                sum += cycles;
+            }
             Err(trap) => break Ending::Trapped(trap),
         }
         steps += 1;
     };
-    Ok(Run { ending, steps })
+    Ok(Run { ending, steps, cycles: sum })
 }
 
 fn lent(memory: &mut [u8]) -> Result<&mut Memory, Refusal> {
@@ -85,9 +88,9 @@ impl<'a> Machine<'a> {
         Ok(Machine { image: Image::parse(file)?, limits, memory })
     }
 
-    /// One step from a PC that is not 0. It writes memory only when nothing more can trap.
+    /// One step from a PC that is not 0: the registers after it, and its cycles. It writes memory only when nothing more can trap.
     #[inline]
-    fn step(&mut self, registers: Registers) -> Result<Registers, Trap> {
+    fn step(&mut self, registers: Registers) -> Result<(Registers, u64), Trap> {
         let sp = registers.sp;
         if sp < self.limits.stack.low - 1 || sp > self.limits.stack.high {
             return Err(Trap::Sp);
@@ -99,20 +102,24 @@ impl<'a> Machine<'a> {
             Undecodable::Truncated => Trap::Pc,
         })?;
         let next = registers.pc + length as u32;
-        self.execute(instruction, Registers { pc: next, ..registers })
+        let mut after = Registers { pc: next, ..registers };
+        let taken = self.execute(instruction, &mut after)?;
+        Ok((after, instruction.cycles().when(taken)))
     }
 
-    /// Carries out an instruction on registers whose PC is already at the next one.
+    /// Carries out an instruction on registers whose PC is already at the next one, and says whether it is a jump that is taken.
+    /// After a trap the registers are of no use. They are changed in place: given back beside the answer they made a run slower.
     #[inline]
-    fn execute(&mut self, instruction: Instruction, mut r: Registers) -> Result<Registers, Trap> {
+    fn execute(&mut self, instruction: Instruction, r: &mut Registers) -> Result<bool, Trap> {
         use Instruction::*;
+        let mut taken = false;
         match instruction {
             Accumulate(operation, from) => {
-                let value = self.source(from, &r);
+                let value = self.source(from, r);
                 r.accumulate(operation, value);
             }
             StoreA(place) => {
-                let to = self.place(place, 1, &r)?;
+                let to = self.place(place, 1, r)?;
                 self.memory[to] = r.a;
                 r.sign_and_zero(r.a);
             }
@@ -132,8 +139,8 @@ impl<'a> Machine<'a> {
                 };
             }
             Modify(operation, Target::A) => r.a = r.modify(operation, r.a),
-            Modify(operation, Target::Short(address)) => self.modify(operation, address.into(), &mut r)?,
-            Modify(operation, Target::Long(address)) => self.modify(operation, address, &mut r)?,
+            Modify(operation, Target::Short(address)) => self.modify(operation, address.into(), r)?,
+            Modify(operation, Target::Long(address)) => self.modify(operation, address, r)?,
             LoadWord(index, from) => {
                 let word = match from {
                     WordSource::Immediate(word) => word,
@@ -144,7 +151,7 @@ impl<'a> Machine<'a> {
                 r.word_sign_and_zero(word);
             }
             StoreWord(place, index) => {
-                let to = self.place(place, 2, &r)?;
+                let to = self.place(place, 2, r)?;
                 let word = r.index(index);
                 self.memory[to..to + 2].copy_from_slice(&word.to_be_bytes());
                 r.word_sign_and_zero(word);
@@ -170,9 +177,9 @@ impl<'a> Machine<'a> {
             }
             Pushw(index) => {
                 let word = r.index(index);
-                self.push_word(word, &mut r)?;
+                self.push_word(word, r)?;
             }
-            Popw(index) => *r.index_mut(index) = self.pop_word(&mut r)?,
+            Popw(index) => *r.index_mut(index) = self.pop_word(r)?,
             Exgw => (r.x, r.y) = (r.y, r.x),
             Mul(index) => {
                 *r.index_mut(index) = (r.index(index) & 0x00FF) * u16::from(r.a);
@@ -194,9 +201,7 @@ impl<'a> Machine<'a> {
             BitJump { jump_if, address, bit, offset } => {
                 let tested = self.read(address.into()) >> bit & 1 == 1;
                 r.flag(C, tested);
-                if tested == jump_if {
-                    r.jump(offset);
-                }
+                taken = r.jump_if(tested == jump_if, offset);
             }
             MoveImmediate { to, value } => {
                 let to = self.direct(to, 1)?;
@@ -204,38 +209,34 @@ impl<'a> Machine<'a> {
             }
             MoveShort { to, from } => self.copy(to.into(), from.into())?,
             MoveLong { to, from } => self.copy(to, from)?,
-            PushA => self.push(r.a, &mut r)?,
-            PushImmediate(value) => self.push(value, &mut r)?,
-            PushLong(address) => self.push(self.read(address.into()), &mut r)?,
-            PopA => r.a = self.pop(&mut r)?,
+            PushA => self.push(r.a, r)?,
+            PushImmediate(value) => self.push(value, r)?,
+            PushLong(address) => self.push(self.read(address.into()), r)?,
+            PopA => r.a = self.pop(r)?,
             PopLong(address) => {
-                let byte = self.pop(&mut r)?;
+                let byte = self.pop(r)?;
                 let to = self.direct(address, 1)?;
                 self.memory[to] = byte;
             }
             SubSp(count) => r.sp = self.lowered(r.sp, count.into())?,
             AddSp(count) => r.sp = self.raised(r.sp, count.into())?,
-            Jump(condition, offset) => {
-                if r.condition(condition) {
-                    r.jump(offset);
-                }
-            }
+            Jump(condition, offset) => taken = r.jump_if(r.condition(condition), offset),
             Call(address) => {
-                self.push_return(&mut r)?;
+                self.push_return(r)?;
                 r.pc = address.into();
             }
             CallRelative(offset) => {
-                self.push_return(&mut r)?;
+                self.push_return(r)?;
                 r.jump(offset);
             }
-            Ret => r.pc = self.pop_word(&mut r)?.into(),
+            Ret => r.pc = self.pop_word(r)?.into(),
             Nop => {}
             SetCarry => r.flag(C, true),
             ResetCarry => r.flag(C, false),
             ComplementCarry => r.flag(C, !r.is(C)),
             ResetOverflow => r.flag(V, false),
         }
-        Ok(r)
+        Ok(taken)
     }
 
     // Reading. Addresses are not cut to 16 bits.
@@ -387,6 +388,14 @@ impl Registers {
 
     fn jump(&mut self, offset: i8) {
         self.pc = self.pc.wrapping_add_signed(offset.into()) & 0x00FF_FFFF;
+    }
+
+    /// Jumps if the condition holds, and says whether it did. PC alone does not tell: the jump may go to the next instruction.
+    fn jump_if(&mut self, holds: bool, offset: i8) -> bool {
+        if holds {
+            self.jump(offset);
+        }
+        holds
     }
 
     /// The condition of op-code 20 plus `number`.

@@ -5,6 +5,7 @@
 //! names of [`crate::Limits`] and the like. It is also the yardstick of speed.
 
 mod check;
+mod cycles;
 mod decode;
 mod image;
 mod machine;

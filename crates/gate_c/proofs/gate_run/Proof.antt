@@ -7,11 +7,11 @@ use Rattle.gate_c.proofs.Answers.{ran-by}
 
 returns : tie.Need-returns
 returns c =
-    let c2 = c .before .before in
-    let c5 = c2 .before .before .before in
-    let c7 = c5 .before .before in
-    ran-by _ _ _ _ _ _ _ _ _ _ _ _ (c7 .before .before .limits-in .ensures) (c7 .registers-in .ensures) (c5 .run .ensures .0)
-    (c .run-number .ensures) (c2 .register-cells .ensures) refl
+    let c3 = c .before .before .before in
+    let c7 = c3 .before .before .before .before in
+    let c9 = c7 .before .before in
+    ran-by _ _ _ _ _ _ _ _ _ _ _ _ _ (c9 .before .before .limits-in .ensures) (c9 .registers-in .ensures) (c7 .run .ensures .0) (c7 .run .ensures .1 .1)
+    (c .run-number .ensures) (c3 .register-cells .ensures) refl
 
 pub gate-run-spec : {M : Type 1} → statement M
 gate-run-spec =

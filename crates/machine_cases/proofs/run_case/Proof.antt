@@ -10,17 +10,17 @@ use Rattle.machine_cases.proofs.run_case.Tie as tie
 
 returns : tie.Need-returns
 returns c =
-    let c4 = c .before .before .before .before in
-    let c7 = c4 .before .before .before in
-    let c8 = c7 .before in
-    let c9 = c8 .before in
-    let c11 = c9 .before .before in
-    let c13 = c11 .before .before in
-    let a = c13 .before .before .before .before .args in
-    let b = c9 .word-at .result * 65536 + c8 .word-at2 .result in
-    let eb : b ≡ wordAt (now (a .case)) 26 * 65536 + wordAt (now (a .case)) 28 = rw (c9 .word-at .ensures, c8 .word-at2 .ensures) in
-    run-parts (now (a .image)) (now (a .memory)) _ (c13 .limits-of .result) _ (c11 .registers-of .result) _
-    (c13 .limits-of .ensures) (c11 .registers-of .ensures) (c7 .run .result) b _ eb (c7 .run .ensures .0)
+    let c5 = c .before .before .before .before .before in
+    let c10 = c5 .before .before .before .before .before in
+    let c11 = c10 .before in
+    let c12 = c11 .before in
+    let c14 = c12 .before .before in
+    let c16 = c14 .before .before in
+    let a = c16 .before .before .before .before .args in
+    let b = c12 .word-at .result * 65536 + c11 .word-at2 .result in
+    let eb : b ≡ wordAt (now (a .case)) 26 * 65536 + wordAt (now (a .case)) 28 = rw (c12 .word-at .ensures, c11 .word-at2 .ensures) in
+    run-parts (now (a .image)) (now (a .memory)) _ (c16 .limits-of .result) _ (c14 .registers-of .result) _
+    (c16 .limits-of .ensures) (c14 .registers-of .ensures) (c10 .run .result .ran) b _ eb (c10 .run .ensures .0)
 
 pub run-case-spec : {M : Type 1} → statement M
 run-case-spec =
@@ -40,6 +40,8 @@ run-case-spec =
     (λ c κs. tt)
     (λ c κs. tt)
     (λ c. search needs)
+    (λ c. search needs)
+    (λ c κs. tt)
     (λ c. search needs)
     (λ c κs. tt)
     (λ c. search needs)

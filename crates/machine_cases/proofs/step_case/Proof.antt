@@ -7,12 +7,12 @@ use Rattle.machine_cases.proofs.step_case.Tie as tie
 
 returns : tie.Need-returns
 returns c =
-    let c4 = c .before .before .before .before in
-    let c6 = c4 .before .before in
-    let c8 = c6 .before .before in
-    let a = c8 .before .before .before .before .args in
-    step-parts (now (a .image)) (now (a .memory)) _ (c8 .limits-of .result) _ (c6 .registers-of .result) _
-    (c8 .limits-of .ensures) (c6 .registers-of .ensures) (c4 .step .result) (c4 .step .ensures .0)
+    let c7 = c .before .before .before .before .before .before .before in
+    let c9 = c7 .before .before in
+    let c11 = c9 .before .before in
+    let a = c11 .before .before .before .before .args in
+    step-parts (now (a .image)) (now (a .memory)) _ (c11 .limits-of .result) _ (c9 .registers-of .result) _
+    (c11 .limits-of .ensures) (c9 .registers-of .ensures) (c7 .step .result .stepped) (c7 .step .ensures .0)
 
 pub step-case-spec : {M : Type 1} → statement M
 step-case-spec =
@@ -24,6 +24,8 @@ step-case-spec =
     (λ c. search needs)
     (λ c κs. tt)
     (λ c κs. tt)
+    (λ c κs. tt)
+    (λ c. search needs)
     (λ c κs. tt)
     (λ c. search needs)
     returns)

@@ -11,12 +11,12 @@ returns-3 : tie.Need-returns-3
 returns-3 c =
     let c2 = c .before .before in
     let c4 = c2 .before .before in
-    let c8 = c4 .before .before .before .before in
-    let c10 = c8 .before .before in
-    let a = c10 .before .before .before .before .before .args in
+    let c9 = c4 .before .before .before .before .before in
+    let c11 = c9 .before .before in
+    let a = c11 .before .before .before .before .before .args in
     λ h.
-    step-goes (now (a .image)) (c10 .limits-of .result) (a .before) (now (a .memory)) (c8 .step .result) _ (a .after) (now (a .expected))
-    (c10 .limits-of .ensures) (c8 .step .ensures .0) (c4 .enum-told .given .1)
+    step-goes (now (a .image)) (c11 .limits-of .result) (a .before) (now (a .memory)) (c9 .step .result .stepped) _ (a .after) (now (a .expected))
+    (c11 .limits-of .ensures) (c9 .step .ensures .0) (c4 .enum-told .given .1)
     (c2 .before .same-registers .ensures (not-false _ (c2 .if1 .left))) (c .same .ensures .0 h)
 
 pub goes-spec : {M : Type 1} → statement M

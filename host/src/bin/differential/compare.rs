@@ -1,13 +1,15 @@
 //! One call to the library and to the twin, every cell compared, and the tally of answers.
 
+use crate::cycles::{self, Timing};
 use crate::limits::Second;
+use crate::met::Met;
 use crate::program::{Case, Known};
 use crate::random::Random;
 use crate::shape::Shape;
 use crate::versions::Versions;
 use gate_host::cells::{self, RegisterCells, ReportCells};
 use gate_host::twin::{self, Instruction};
-use gate_host::{Accepted, Ending, Limits, Refused, Registers, Step, Trap, MEMORY_BYTES, TEXT_BYTES};
+use gate_host::{Accepted, Ending, Limits, Refusal, Refused, Registers, Run, Step, Trap, MEMORY_BYTES, TEXT_BYTES};
 use std::fmt::Debug;
 
 /// What differed, in words, or nothing.
@@ -15,6 +17,8 @@ pub type Compared<T> = Result<T, String>;
 
 /// Contents of a lent cell before a call, to see whether it was written.
 const BLANK: u8 = 0xA5;
+/// The same for a cell of cycles, all eight bytes of which are to be written.
+const BLANK_CYCLES: [u64; 1] = [u64::from_ne_bytes([BLANK; 8])];
 
 /// How often each function gave each answer.
 #[derive(Default)]
@@ -30,10 +34,9 @@ pub struct Tally {
     pub opcodes: Vec<[u64; 256]>,
     /// Shapes of the images that were checked as they were made, in the order of `Shape::ALL`.
     pub shapes: [u64; Shape::ALL.len()],
-    /// What was met of the second grant, in the order of `Second`.
-    pub second: [u64; Second::ALL.len()],
-    /// What was met of the versions, in the order of `Versions`.
-    pub versions: [u64; Versions::ALL.len()],
+    pub second: Met<Second>,
+    pub versions: Met<Versions>,
+    pub timing: Met<Timing>,
     /// Trap 22: PC not in the code, bytes that run out, a call whose next address is 10000.
     pub trap_22: [u64; 3],
 }
@@ -47,26 +50,6 @@ impl Tally {
         for (times, &shape) in self.shapes.iter_mut().zip(&Shape::ALL) {
             *times += u64::from(case.shapes.contains(&shape));
         }
-    }
-
-    pub fn note_second(&mut self, met: impl IntoIterator<Item = Second>) {
-        for what in met {
-            self.second[what as usize] += 1;
-        }
-    }
-
-    pub fn times(&self, what: Second) -> u64 {
-        self.second[what as usize]
-    }
-
-    pub fn note_versions(&mut self, met: impl IntoIterator<Item = Versions>) {
-        for what in met {
-            self.versions[what as usize] += 1;
-        }
-    }
-
-    pub fn version_times(&self, what: Versions) -> u64 {
-        self.versions[what as usize]
     }
 
     /// The op-codes of which a step was made.
@@ -168,8 +151,8 @@ pub fn check(case: &Case, marks: &[u16], tally: &mut Tally) -> Compared<Checked>
     same_cells("check: mark", &library, &other)?;
     tally.check.add(number);
     let refused = code_from(&case.image, report[0].into()).and_then(instruction);
-    tally.note_second(Second::of_refusal(&case.limits, number, refused));
-    tally.note_versions(Versions::of_check(&case.image, number, report[0], &library));
+    tally.second.note(Second::of_refusal(&case.limits, number, refused));
+    tally.versions.note(Versions::of_check(&case.image, number, report[0], &library));
     if let Some(known) = &case.known {
         by_construction(known, number, report, &library)?;
     }
@@ -216,7 +199,15 @@ pub fn start(
     Ok((number, registers))
 }
 
-/// Makes one step, and gives the registers that both answered.
+/// What a step answered.
+#[derive(Clone, Copy, Debug, PartialEq)]
+pub struct Stepped {
+    pub number: u8,
+    pub registers: RegisterCells,
+    pub cycles: u64,
+}
+
+/// Makes one step, and gives what both answered.
 pub fn step(
     image: &[u8],
     limits: &Limits,
@@ -224,37 +215,48 @@ pub fn step(
     lent: usize,
     given: RegisterCells,
     tally: &mut Tally,
-) -> Compared<(u8, RegisterCells)> {
+) -> Compared<Stepped> {
     let (mut registers, mut twin_registers) = (given, Registers::from_cells(&given));
-    let number = cells::step(image, limits, &mut memories.library[..lent], &mut registers);
+    let mut cycles = BLANK_CYCLES;
+    let number = cells::step(image, limits, &mut memories.library[..lent], &mut registers, &mut cycles);
     let answer = twin::step(image, limits, &mut memories.twin[..lent], &mut twin_registers);
-    let twin_number = match answer {
-        Ok(Step::Made) => cells::OK,
-        Ok(Step::Finished) => cells::FINISHED,
-        Ok(Step::Trapped(trap)) => trap.number(),
-        Err(refusal) => refusal.number(),
-    };
-    same("step: number and registers", &(number, registers), &(twin_number, twin_registers.to_cells()))?;
+    let library = Stepped { number, registers, cycles: cycles[0] };
+    same("step", &library, &step_cells(answer, twin_registers.to_cells()))?;
     memories.same()?;
+    let bytes = bytes_at(image, given);
     tally.step.add(number);
+    tally.timing.note(Timing::of_step(&library, bytes.and_then(instruction)));
     if let Ok(answer) = answer {
-        let bytes = bytes_at(image, given);
         note_step(answer, bytes, limits, tally);
-        tally.note_versions(bytes.and_then(|bytes| Versions::of_step(image, bytes, answer)));
+        tally.versions.note(bytes.and_then(|bytes| Versions::of_step(image, bytes, answer)));
     }
-    Ok((number, registers))
+    if let (cells::OK, Some(bytes)) = (number, bytes) {
+        cycles::as_pc_tells(&library, bytes, given[5])?;
+    }
+    Ok(library)
+}
+
+/// An answer of the twin.
+fn step_cells(answer: Result<Step, Refusal>, registers: RegisterCells) -> Stepped {
+    let (number, cycles) = match answer {
+        Ok(Step::Made { cycles }) => (cells::OK, cycles),
+        Ok(Step::Finished) => (cells::FINISHED, 0),
+        Ok(Step::Trapped(trap)) => (trap.number(), 0),
+        Err(refusal) => (refusal.number(), 0),
+    };
+    Stepped { number, registers, cycles }
 }
 
 /// Notes what was met by a step at these code bytes.
 fn note_step(answer: Step, bytes: Option<&[u8]>, limits: &Limits, tally: &mut Tally) {
     let instruction = bytes.and_then(instruction);
     match answer {
-        Step::Made => {
+        Step::Made { .. } => {
             note_opcode(bytes, tally);
-            tally.note_second(instruction.and_then(|made| Second::of_step(limits, made)));
+            tally.second.note(instruction.and_then(|made| Second::of_step(limits, made)));
         }
         Step::Trapped(Trap::Pc) => note_trap_22(bytes, tally),
-        Step::Trapped(Trap::Store) => tally.note_second(instruction.and_then(|trapped| Second::of_trap(limits, trapped))),
+        Step::Trapped(Trap::Store) => tally.second.note(instruction.and_then(|trapped| Second::of_trap(limits, trapped))),
         _ => {}
     }
 }
@@ -294,7 +296,16 @@ fn note_trap_22(bytes: Option<&[u8]>, tally: &mut Tally) {
     tally.trap_22[why] += 1;
 }
 
-/// Runs, and gives the number, steps and registers that both answered.
+/// What a run answered.
+#[derive(Clone, Copy, Debug, PartialEq)]
+pub struct Ran {
+    pub number: u8,
+    pub steps: u32,
+    pub cycles: u64,
+    pub registers: RegisterCells,
+}
+
+/// Runs, and gives what both answered.
 pub fn run(
     image: &[u8],
     limits: &Limits,
@@ -303,36 +314,46 @@ pub fn run(
     given: RegisterCells,
     budget: u32,
     tally: &mut Tally,
-) -> Compared<(u8, u32, RegisterCells)> {
+) -> Compared<Ran> {
     let (mut registers, mut twin_registers) = (given, Registers::from_cells(&given));
-    let mut steps = [u32::from(BLANK)];
-    let number = cells::run(image, limits, &mut memories.library[..lent], &mut registers, budget, &mut steps);
-    let (twin_number, twin_steps) = match twin::run(image, limits, &mut memories.twin[..lent], &mut twin_registers, budget) {
-        Ok(run) => match run.ending {
-            Ending::Finished => (cells::FINISHED, run.steps),
-            Ending::Spent => (cells::SPENT, run.steps),
-            Ending::Trapped(trap) => (trap.number(), run.steps),
-        },
-        Err(refusal) => (refusal.number(), 0),
-    };
-    let library = (number, steps[0], registers);
-    same(&format!("run of {budget}: number, steps, registers"), &library, &(twin_number, twin_steps, twin_registers.to_cells()))?;
+    let (mut steps, mut cycles) = ([u32::from(BLANK)], BLANK_CYCLES);
+    let number = cells::run(image, limits, &mut memories.library[..lent], &mut registers, budget, &mut steps, &mut cycles);
+    let answer = twin::run(image, limits, &mut memories.twin[..lent], &mut twin_registers, budget);
+    let library = Ran { number, steps: steps[0], cycles: cycles[0], registers };
+    same(&format!("run of {budget}"), &library, &run_cells(answer, twin_registers.to_cells()))?;
     memories.same()?;
     tally.run.add(number);
     tally.run_steps += u64::from(steps[0]);
+    tally.timing.note(Timing::of_run(&library));
     Ok(library)
+}
+
+/// An answer of the twin.
+fn run_cells(answer: Result<Run, Refusal>, registers: RegisterCells) -> Ran {
+    let (number, steps, cycles) = match answer {
+        Ok(Run { ending: Ending::Finished, steps, cycles }) => (cells::FINISHED, steps, cycles),
+        Ok(Run { ending: Ending::Spent, steps, cycles }) => (cells::SPENT, steps, cycles),
+        Ok(Run { ending: Ending::Trapped(trap), steps, cycles }) => (trap.number(), steps, cycles),
+        Err(refusal) => (refusal.number(), 0, 0),
+    };
+    Ran { number, steps, cycles, registers }
 }
 
 pub fn decode(bytes: &[u8], address: u16, tally: &mut Tally) -> Compared<()> {
     let mut text = [BLANK; TEXT_BYTES];
     let mut length = [usize::from(BLANK)];
-    let number = cells::decode(bytes, address, &mut text, &mut length);
+    let mut cycles = [BLANK; 2];
+    let number = cells::decode(bytes, address, &mut text, &mut length, &mut cycles);
     let expected = match twin::decode(bytes) {
-        Ok((instruction, length)) => (cells::OK, length, twin::text(instruction, length, address).0),
-        Err(twin::Undecodable::Outside) => (8, 0, [0; TEXT_BYTES]),
-        Err(twin::Undecodable::Truncated) => (9, 0, [0; TEXT_BYTES]),
+        Ok((instruction, length)) => {
+            (cells::OK, length, twin::text(instruction, length, address).0, instruction.cycles().to_cells())
+        }
+        Err(twin::Undecodable::Outside) => (8, 0, [0; TEXT_BYTES], [0, 0]),
+        Err(twin::Undecodable::Truncated) => (9, 0, [0; TEXT_BYTES], [0, 0]),
     };
-    same(&format!("decode of {bytes:02X?} at {address:04X}: number, length, text"), &(number, length[0], text), &expected)?;
+    let what = format!("decode of {bytes:02X?} at {address:04X}: number, length, text, cycles");
+    same(&what, &(number, length[0], text, cycles), &expected)?;
     tally.decode.add(number);
+    tally.timing.note(Timing::of_decode(cycles));
     Ok(())
 }

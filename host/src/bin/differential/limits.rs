@@ -1,6 +1,7 @@
 //! Limits: where the three areas lie, addresses on which something turns, and what W-205 decides on.
 
 use crate::generator::Generator;
+use crate::met::Meet;
 use crate::program::Case;
 use gate_host::twin::Instruction;
 use gate_host::{slu, twin, Area, Limits};
@@ -32,8 +33,8 @@ pub enum Second {
     WordStored,
 }
 
-impl Second {
-    pub const ALL: [(Second, &str); 17] = [
+impl Meet for Second {
+    const ALL: &'static [(Second, &'static str)] = &[
         (Second::Present, "cases with a second grant"),
         (Second::Absent, "cases with none"),
         (Second::AboveGrant, "second grants from the byte after the first"),
@@ -53,6 +54,12 @@ impl Second {
         (Second::WordStored, "steps that store a word in the second grant"),
     ];
 
+    fn number(self) -> usize {
+        self as usize
+    }
+}
+
+impl Second {
     /// What these limits, which are good, have of it.
     pub fn of_limits(limits: &Limits) -> impl Iterator<Item = Second> {
         let Limits { grant, stack, second } = *limits;

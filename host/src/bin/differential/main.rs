@@ -4,18 +4,21 @@
 //!
 //! Cases are made until at least N checks were compared, and N single steps that were made. A difference prints the seed, the
 //! case and both answers, and `--seed S --case K` makes that case again. The exit status is 1 where something differs, or where
-//! some answer, or something that W-202, W-205 or W-212 decides on, was never met, a second grant in less than half of the cases,
-//! or a version in less than a third.
+//! some answer, or something that W-202, W-205, W-206 or W-212 decides on, was never met, a second grant in less than half of the
+//! cases, or a version in less than a third.
 
 mod compare;
+mod cycles;
 mod damage;
 mod flow;
 mod generator;
 mod limits;
+mod met;
 mod pair;
 mod program;
 mod random;
 mod shape;
+mod stretch;
 mod trial;
 mod versions;
 
@@ -130,12 +133,9 @@ fn print(options: &Options, cases: u64, templates: &[Template], tally: &Tally) -
         println!("images with {}: {times}", shape.name());
         missing |= times == 0;
     }
-    let second = Second::ALL.map(|(what, name)| (name, tally.times(what)));
-    let versions = Versions::ALL.map(|(what, name)| (name, tally.version_times(what)));
-    for (name, times) in second.into_iter().chain(versions) {
-        println!("{name}: {times}");
-        missing |= times == 0;
-    }
+    missing |= tally.second.print();
+    missing |= tally.versions.print();
+    missing |= tally.timing.print();
     let [pc, bytes, call] = tally.trap_22;
     println!("trap 22 of steps: PC {pc}, bytes {bytes}, call before 10000 {call}");
     println!("steps made in runs: {}", tally.run_steps);
@@ -149,11 +149,11 @@ fn print(options: &Options, cases: u64, templates: &[Template], tally: &Tally) -
 
 /// Says whether less than half of the cases have a second grant, or less than a third one of the versions.
 fn is_seldom(cases: u64, tally: &Tally) -> bool {
-    let second = 2 * tally.times(Second::Present) < cases;
+    let second = 2 * tally.second.times(Second::Present) < cases;
     if second {
         println!("TOO SELDOM MET: less than half of the cases have a second grant");
     }
-    let version = [Versions::Case0001, Versions::Case0002].into_iter().any(|version| 3 * tally.version_times(version) < cases);
+    let version = [Versions::Case0001, Versions::Case0002].into_iter().any(|version| 3 * tally.versions.times(version) < cases);
     if version {
         println!("TOO SELDOM MET: less than a third of the cases have one of the versions");
     }

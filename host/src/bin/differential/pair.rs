@@ -1,6 +1,6 @@
 //! One image in version 0001 and in 0002, from the same marks, registers and memory: only what comes to CALLR may differ.
 
-use crate::compare::{self, Compared, Memories, Tally};
+use crate::compare::{self, Compared, Memories, Ran, Stepped, Tally};
 use crate::program::Case;
 use crate::versions::{self, Versions, CALLR};
 use gate_host::cells::{RegisterCells, OK, SPENT};
@@ -24,7 +24,7 @@ impl Pair {
         let [one, other] = &self.cases;
         let (first, second) = (compare::check(one, marks, tally)?, compare::check(other, marks, tally)?);
         let (callr, what) = first_callr(&one.image, first.number, first.report[0]);
-        tally.note_versions([what]);
+        tally.versions.note([what]);
         let expected = callr.map_or((first.number, first.report), |at| (8, [at, 0, 0]));
         alike("check: number, report", &expected, &(second.number, second.report))?;
         if callr.is_none() && first.marks != second.marks {
@@ -60,16 +60,16 @@ impl Pair {
 
     /// Makes a step. Where that in version 0001 comes to CALLR, that in 0002 traps 23; else the two are alike. Gives what that in
     /// 0001 answered.
-    pub fn step(&mut self, given: RegisterCells, tally: &mut Tally) -> Compared<(u8, RegisterCells)> {
+    pub fn step(&mut self, given: RegisterCells, tally: &mut Tally) -> Compared<Stepped> {
         let [one, other] = &self.cases;
         let [memory, other_memory] = &mut self.memories;
         let first = compare::step(&one.image, &one.limits, memory, MEMORY_BYTES, given, tally)?;
         let second = compare::step(&other.image, &other.limits, other_memory, MEMORY_BYTES, given, tally)?;
         // A call is made, or its operand or the address after it runs out, or SP would leave its range.
-        let callr = matches!(first.0, OK | 22 | 24) && is_at_callr(&one.image, given);
-        tally.note_versions([if callr { Versions::StepsApart } else { Versions::StepsAlike }]);
-        let expected = if callr { (23, Registers::from_cells(&given).to_cells()) } else { first };
-        alike("step: number, registers", &expected, &second)?;
+        let callr = matches!(first.number, OK | 22 | 24) && is_at_callr(&one.image, given);
+        tally.versions.note([if callr { Versions::StepsApart } else { Versions::StepsAlike }]);
+        let trapped = Stepped { number: 23, registers: Registers::from_cells(&given).to_cells(), cycles: 0 };
+        alike("step", if callr { &trapped } else { &first }, &second)?;
         if callr {
             other_memory.clone_from(memory);
         }
@@ -82,13 +82,12 @@ impl Pair {
         let [one, other] = &self.cases;
         let [memory, other_memory] = &mut self.memories;
         let second = compare::run(&other.image, &other.limits, other_memory, MEMORY_BYTES, given, budget, tally)?;
-        let (number, steps, registers) = second;
-        let stopped = number == 23 && is_at_callr(&other.image, registers);
-        let budget = if stopped { steps } else { budget };
+        let stopped = second.number == 23 && is_at_callr(&other.image, second.registers);
+        let budget = if stopped { second.steps } else { budget };
         let first = compare::run(&one.image, &one.limits, memory, MEMORY_BYTES, given, budget, tally)?;
-        let second = if stopped { (SPENT, steps, registers) } else { second };
-        tally.note_versions([if stopped { Versions::RunsStopped } else { Versions::RunsAlike }]);
-        alike("run: number, steps, registers", &first, &second)?;
+        let second = if stopped { Ran { number: SPENT, ..second } } else { second };
+        tally.versions.note([if stopped { Versions::RunsStopped } else { Versions::RunsAlike }]);
+        alike("run", &first, &second)?;
         self.same_memory("run")
     }
 

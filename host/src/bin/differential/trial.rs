@@ -1,11 +1,12 @@
 //! One case from end to end: what it is made of, and the calls that are compared.
 
-use crate::compare::{self, Compared, Memories, Tally};
+use crate::compare::{self, Compared, Memories, Stepped, Tally};
 use crate::generator::{Generator, Template};
 use crate::limits::Second;
 use crate::pair::Pair;
 use crate::program::Case;
 use crate::random::Random;
+use crate::stretch::Stretch;
 use crate::versions::{Versions, CALLR};
 use gate_host::cells::{RegisterCells, OK};
 use gate_host::{Area, MEMORY_BYTES};
@@ -40,8 +41,8 @@ impl<'a> Trial<'a> {
     pub fn whole(&mut self) -> Compared<()> {
         let need = self.check()?;
         self.tally.note_shapes(&self.case);
-        self.tally.note_second(Second::of_limits(&self.case.limits));
-        self.tally.note_versions(Versions::of_case(&self.case));
+        self.tally.second.note(Second::of_limits(&self.case.limits));
+        self.tally.versions.note(Versions::of_case(&self.case));
         if let Some(need) = need {
             self.cut_stack(need)?;
         }
@@ -103,9 +104,9 @@ impl<'a> Trial<'a> {
         }
         for _ in 0..self.make.random.between(1, 3) {
             for _ in 0..self.make.random.between(1, 40) {
-                let (number, after) = self.step(MEMORY_BYTES, registers)?;
-                registers = after;
-                if number != OK {
+                let step = self.step(MEMORY_BYTES, registers)?;
+                registers = step.registers;
+                if step.number != OK {
                     break;
                 }
             }
@@ -120,9 +121,9 @@ impl<'a> Trial<'a> {
             let lent = self.lent();
             let mut registers = self.registers();
             for _ in 0..4 {
-                let (number, after) = self.step(lent, registers)?;
-                registers = after;
-                if number != OK {
+                let step = self.step(lent, registers)?;
+                registers = step.registers;
+                if step.number != OK {
                     break;
                 }
             }
@@ -143,9 +144,9 @@ impl<'a> Trial<'a> {
         for mut registers in started.into_iter().chain(anywhere) {
             self.call = format!("in either version, registers {registers:04X?}");
             for _ in 0..self.make.random.between(1, 4) {
-                let (number, after) = pair.step(registers, self.tally)?;
-                registers = after;
-                if number != OK {
+                let step = pair.step(registers, self.tally)?;
+                registers = step.registers;
+                if step.number != OK {
                     break;
                 }
             }
@@ -154,22 +155,36 @@ impl<'a> Trial<'a> {
         Ok(())
     }
 
-    fn step(&mut self, lent: usize, registers: RegisterCells) -> Compared<(u8, RegisterCells)> {
+    fn step(&mut self, lent: usize, registers: RegisterCells) -> Compared<Stepped> {
         self.call = format!("step with {lent} bytes of memory, registers {registers:04X?}");
         compare::step(&self.case.image, &self.case.limits, &mut self.memories, lent, registers, self.tally)
     }
 
-    fn run(&mut self, lent: usize, registers: RegisterCells) -> Compared<RegisterCells> {
+    /// A run, and now and then its steps once more in other ways. Gives the registers after it.
+    fn run(&mut self, lent: usize, given: RegisterCells) -> Compared<RegisterCells> {
+        let budget = self.budget();
+        self.call = format!("run of {budget} with {lent} bytes of memory, registers {given:04X?}");
+        let before = self.make.random.one_in(8).then(|| self.memories.clone());
+        let Case { image, limits, .. } = &self.case;
+        let whole = compare::run(image, limits, &mut self.memories, lent, given, budget, self.tally)?;
+        // Of long runs there would be too many single steps.
+        if let Some(before) = before.filter(|_| (1..=1_000).contains(&whole.steps)) {
+            let stretch = Stretch { case: &self.case, lent, budget, given, before, whole, after: &self.memories };
+            self.tally.timing.note([stretch.one_by_one()?]);
+            let first = self.make.random.between(0, whole.steps as usize);
+            self.tally.timing.note(stretch.in_two_runs(first as u32)?);
+        }
+        Ok(whole.registers)
+    }
+
+    fn budget(&mut self) -> u32 {
         let budget = match self.make.random.below(40) {
             0 => self.make.random.between(10_000, 100_000),
             1..=10 => self.make.random.between(0, 3),
             11..=20 => self.make.random.between(3, 100),
             _ => self.make.random.between(100, 1_000),
         };
-        self.call = format!("run of {budget} with {lent} bytes of memory, registers {registers:04X?}");
-        let Case { image, limits, .. } = &self.case;
-        let (_, _, after) = compare::run(image, limits, &mut self.memories, lent, registers, budget as u32, self.tally)?;
-        Ok(after)
+        budget as u32
     }
 
     fn decodes(&mut self) -> Compared<()> {

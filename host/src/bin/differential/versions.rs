@@ -1,6 +1,7 @@
 //! The two versions: what W-212 decides on, and images that have CALLR, or its op-code's byte elsewhere.
 
 use crate::generator::Generator;
+use crate::met::Meet;
 use crate::program::{Case, Program, Routine};
 use crate::shape::Shape;
 use gate_host::cells::OK;
@@ -38,8 +39,8 @@ pub enum Versions {
     RunsStopped,
 }
 
-impl Versions {
-    pub const ALL: [(Versions, &str); 24] = [
+impl Meet for Versions {
+    const ALL: &'static [(Versions, &'static str)] = &[
         (Versions::Case0001, "cases of version 0001"),
         (Versions::Case0002, "cases of version 0002"),
         (Versions::Refused0003, "checks refused with 3 for version 0003"),
@@ -66,6 +67,12 @@ impl Versions {
         (Versions::RunsStopped, "runs that stop at AD in version 0002, and are the same up to there in 0001"),
     ];
 
+    fn number(self) -> usize {
+        self as usize
+    }
+}
+
+impl Versions {
     /// The version of a case whose image has one of the two.
     pub fn of_case(case: &Case) -> Option<Versions> {
         match version(&case.image)? {
@@ -106,7 +113,7 @@ impl Versions {
     /// What a step at these bytes of the code has of it.
     pub fn of_step(image: &[u8], bytes: &[u8], answer: Step) -> Option<Versions> {
         match (version(image)?, bytes, answer) {
-            (1, [CALLR, _, ..], Step::Made) => Some(Versions::MadeCallr),
+            (1, [CALLR, _, ..], Step::Made { .. }) => Some(Versions::MadeCallr),
             (1, [CALLR], Step::Trapped(Trap::Pc)) => Some(Versions::TrappedTruncated),
             (2, [CALLR, _, ..], Step::Trapped(Trap::Outside)) => Some(Versions::TrappedCallr),
             (2, [CALLR], Step::Trapped(Trap::Outside)) => Some(Versions::TrappedLastByte),

@@ -18,6 +18,6 @@ goes-spec =
     (λ c image memory limits next flow inside straight is.
     let a = c .before .args in
     rw (c .made .ensures)
-    (made image limits (a .self) memory next (a .c) (goes flow)
+    (made image limits (a .self) memory next (a .cycles) (a .c) (goes flow)
     (no-store limits (a .self .sp) next 0 0 flow straight ∙ in-range limits (a .self .sp) inside Nowhere flow)
     (a .self .sp) (a .pc) (omega arith) (sym is))))

@@ -10,5 +10,8 @@ jumps-spec =
     (tie.spec
     (λ c κs. search needs)
     (λ c κs. search needs)
+    (λ c κs. search needs)
     (λ c image memory limits flow inside straight is.
-    c .goes .ensures image memory limits (c .before .before .args .next) flow inside straight (c .before .destination .ensures ∙ is)))
+    let start = c .before .before .before in
+    rw (c .before .charged .ensures) at
+    (c .goes .ensures image memory limits (start .args .next) flow inside straight (c .before .before .destination .ensures ∙ is))))

@@ -18,8 +18,8 @@ moves-spec =
     (λ c κs. search needs)
     (λ c image memory next flow straight is.
     let a = c .before .before .before .args in
-    rw (c .answer .ensures)
-    (trapped image (a .limits) (a .self) memory next (a .c) (record { pops = a .pops; pushes = a .pushes; place = Nowhere; flow = flow })
+    rw (c .trapped .ensures)
+    (trapped image (a .limits) (a .self) memory next (a .cycles) (a .c) (record { pops = a .pops; pushes = a .pushes; place = Nowhere; flow = flow })
     (c .before .before .move-trap .result)
     (no-store (a .limits) (a .self .sp) next (a .pops) (a .pushes) flow straight ∙ sym (c .before .before .move-trap .ensures Nowhere flow))
     (c .before .if1 .taken)))
@@ -37,6 +37,6 @@ moves-spec =
     let c3 = c .before .before .before in
     let a = c3 .before .args in
     rw (c .made .ensures)
-    (made image (a .limits) (a .self) memory next (a .c) (record { pops = a .pops; pushes = a .pushes; place = Nowhere; flow = flow })
+    (made image (a .limits) (a .self) memory next (a .cycles) (a .c) (record { pops = a .pops; pushes = a .pushes; place = Nowhere; flow = flow })
     (no-store (a .limits) (a .self .sp) next (a .pops) (a .pushes) flow straight ∙ sym (c3 .move-trap .ensures Nowhere flow) ∙ c .before .before .if1 .left)
     (c .before .sp-after .result) (a .pc) (sym (c .before .sp-after .ensures)) (sym is))))

@@ -1,19 +1,21 @@
 -- `execution::Registers::perform` meets its contract: each arm by what it computes and the shape of its effect.
-use mathlib.Core.Path.{refl}
+use mathlib.Core.Path.{refl, ap}
 use denote.Ref.{now}
 use borrow.Author.Needs.{needs}
 use Rattle.stm8.specs.Effects.{jumpFlow}
+use Rattle.stm8.specs.Cycles.{cycles}
 use Rattle.stm8.specs.declared.Flow.the-variants.{Next}
 use Rattle.execution.specs.Computing.{computed}
 use Rattle.storage.specs.Storing.{callTrap}
-use Rattle.execution.specs.Performing.{pcAfter, made, performed}
-use Rattle.execution.specs.Internal.{performedBy}
-use Rattle.execution.proofs.Shapes.{jump-flow, no-call}
+use Rattle.execution.specs.Performing.{pcAfter}
+use Rattle.execution.specs.Cycles.{instructionCycles}
+use Rattle.execution.specs.Internal.{performedBy, performedAs}
+use Rattle.execution.proofs.Shapes.{costs-one, costs-either, costs-jump, jump-flow, no-call}
 use Rattle.execution.proofs.Registers.perform.Statement.{statement}
 use Rattle.execution.proofs.Registers.perform.Tie as tie
 
 pub perform-spec : {M : Type 1} → statement M
-unfolding computed callTrap pcAfter performed made performedBy
+unfolding computed callTrap pcAfter instructionCycles performedAs performedBy
 perform-spec =
     tie.close
     (tie.spec
@@ -99,36 +101,44 @@ perform-spec =
     (c .goes .ensures (now (a .image)) (now (a .memory)) (a .limits) (a .next) Next inside refl refl)))
     (λ c inside.
     let a = c .before .before .before .before .before .before .before .args in
-    rw (c .before .before .before .i4 .given .1)
+    costs-one (now (a .image)) (a .limits) (a .self) (now (a .memory)) (a .next) (a .i) 1 (ap cycles (c .before .before .before .i4 .given .1))
+    (rw (c .before .before .before .i4 .given .1)
     (rw (c .before .store-half .ensures) at
-    (c .goes2 .ensures (now (a .image)) (now (a .memory)) (a .limits) (a .next) Next inside refl refl)))
+    (c .goes2 .ensures (now (a .image)) (now (a .memory)) (a .limits) (a .next) Next inside refl refl))))
     (λ c. search needs)
     (λ c inside.
-    rw (c .before .before .before .before .before .i5 .given .1)
-    (c .before .before .perform-modify .ensures inside))
+    let a = c .before .before .before .before .before .before .before .before .before .args in
+    costs-one (now (a .image)) (a .limits) (a .self) (now (a .memory)) (a .next) (a .i) 1 (ap cycles (c .before .before .before .before .before .i5 .given .1))
+    (rw (c .before .before .before .before .before .i5 .given .1)
+    (c .before .before .perform-modify .ensures inside)))
     (λ c. search needs)
     (λ c inside.
-    rw (c .before .before .before .i6 .given .1)
-    (c .perform-load-word .ensures inside))
+    let a = c .before .before .before .before .before .before .before .args in
+    costs-one (now (a .image)) (a .limits) (a .self) (now (a .memory)) (a .next) (a .i) 2 (ap cycles (c .before .before .before .i6 .given .1))
+    (rw (c .before .before .before .i6 .given .1)
+    (c .perform-load-word .ensures inside)))
     (λ c. search needs)
     (λ c inside.
     rw (c .before .before .before .before .before .i7 .given .1)
     (c .before .before .perform-store-word .ensures (now (c .before .before .before .before .before .before .before .before .before .args .image)) inside))
     (λ c inside.
     let a = c .before .before .before .before .before .before .before .args in
-    rw (c .before .before .before .i8 .given .1)
+    costs-one (now (a .image)) (a .limits) (a .self) (now (a .memory)) (a .next) (a .i) 1 (ap cycles (c .before .before .before .i8 .given .1))
+    (rw (c .before .before .before .i8 .given .1)
     (rw (c .before .copy-word .ensures) at
-    (c .goes3 .ensures (now (a .image)) (now (a .memory)) (a .limits) (a .next) Next inside refl refl)))
+    (c .goes3 .ensures (now (a .image)) (now (a .memory)) (a .limits) (a .next) Next inside refl refl))))
     (λ c inside.
     let a = c .before .before .before .before .before .before .before .args in
-    rw (c .before .before .before .i9 .given .1)
+    costs-one (now (a .image)) (a .limits) (a .self) (now (a .memory)) (a .next) (a .i) 2 (ap cycles (c .before .before .before .i9 .given .1))
+    (rw (c .before .before .before .i9 .given .1)
     (rw (c .before .word-alu .ensures) at
-    (c .goes4 .ensures (now (a .image)) (now (a .memory)) (a .limits) (a .next) Next inside refl refl)))
+    (c .goes4 .ensures (now (a .image)) (now (a .memory)) (a .limits) (a .next) Next inside refl refl))))
     (λ c inside.
     let a = c .before .before .before .before .before .before .before .args in
-    rw (c .before .before .before .i10 .given .1)
+    costs-one (now (a .image)) (a .limits) (a .self) (now (a .memory)) (a .next) (a .i) 1 (ap cycles (c .before .before .before .i10 .given .1))
+    (rw (c .before .before .before .i10 .given .1)
     (rw (c .before .word-modify .ensures) at
-    (c .goes5 .ensures (now (a .image)) (now (a .memory)) (a .limits) (a .next) Next inside refl refl)))
+    (c .goes5 .ensures (now (a .image)) (now (a .memory)) (a .limits) (a .next) Next inside refl refl))))
     (λ c. search needs)
     (λ c inside.
     let a = c .before .before .before .before .before .before .before .before .before .before .args in
@@ -137,8 +147,10 @@ perform-spec =
     (c .before .before .pushes .ensures (now (a .image)) (a .next) Next refl refl)))
     (λ c. search needs)
     (λ c inside.
-    rw (c .before .before .before .i12 .given .1)
-    (c .perform-popw .ensures))
+    let a = c .before .before .before .before .before .before .before .args in
+    costs-one (now (a .image)) (a .limits) (a .self) (now (a .memory)) (a .next) (a .i) 2 (ap cycles (c .before .before .before .i12 .given .1))
+    (rw (c .before .before .before .i12 .given .1)
+    (c .perform-popw .ensures)))
     (λ c inside.
     let a = c .before .before .before .before .before .before .args in
     rw (c .before .before .enum-told .given .1)
@@ -146,17 +158,20 @@ perform-spec =
     (c .goes6 .ensures (now (a .image)) (now (a .memory)) (a .limits) (a .next) Next inside refl refl)))
     (λ c inside.
     let a = c .before .before .before .before .before .before .before .args in
-    rw (c .before .before .before .i13 .given .1)
+    costs-one (now (a .image)) (a .limits) (a .self) (now (a .memory)) (a .next) (a .i) 4 (ap cycles (c .before .before .before .i13 .given .1))
+    (rw (c .before .before .before .i13 .given .1)
     (rw (c .before .mul .ensures) at
-    (c .goes7 .ensures (now (a .image)) (now (a .memory)) (a .limits) (a .next) Next inside refl refl)))
+    (c .goes7 .ensures (now (a .image)) (now (a .memory)) (a .limits) (a .next) Next inside refl refl))))
     (λ c. search needs)
     (λ c inside.
     rw (c .before .before .before .before .before .i14 .given .1)
     (c .before .before .perform-bit .ensures inside))
     (λ c. search needs)
     (λ c inside.
-    rw (c .before .before .before .i15 .given .1)
-    (c .perform-bit-jump .ensures inside))
+    let a = c .before .before .before .before .before .before .before .args in
+    costs-either (now (a .image)) (a .limits) (a .self) (now (a .memory)) (a .next) (a .i) 2 3 (ap cycles (c .before .before .before .i15 .given .1))
+    (rw (c .before .before .before .i15 .given .1)
+    (c .perform-bit-jump .ensures inside)))
     (λ c. search needs)
     (λ c inside.
     rw (c .before .before .before .before .before .i16 .given .1)
@@ -167,8 +182,10 @@ perform-spec =
     (c .before .before .perform-push .ensures))
     (λ c. search needs)
     (λ c inside.
-    rw (c .before .before .before .before .before .i18 .given .1)
-    (c .before .before .perform-pop .ensures))
+    let a = c .before .before .before .before .before .before .before .before .before .args in
+    costs-one (now (a .image)) (a .limits) (a .self) (now (a .memory)) (a .next) (a .i) 1 (ap cycles (c .before .before .before .before .before .i18 .given .1))
+    (rw (c .before .before .before .before .before .i18 .given .1)
+    (c .before .before .perform-pop .ensures)))
     (λ c inside.
     let a = c .before .before .before .before .before .before .before .args in
     rw (c .before .before .before .i19 .given .1)
@@ -185,9 +202,10 @@ perform-spec =
     let o = told .0 .0 in
     let n = told .0 .1 .0 in
     rw (told .1)
+    (costs-jump (now (a .image)) (a .limits) (a .self) (now (a .memory)) (a .next) o n
     ((rw (c .before .jump .ensures) at
     (c .jumps .ensures (now (a .image)) (now (a .memory)) (a .limits) (jumpFlow o n))) inside (no-call o n)
-    (jump-flow (now (a .image)) (now (a .memory)) (a .self .sp) (a .next) (a .self .cc) n o)))
+    (jump-flow (now (a .image)) (now (a .memory)) (a .self .sp) (a .next) (a .self .cc) n o))))
     (λ c. search needs)
     (λ c inside.
     rw (c .before .before .before .before .before .i22 .given .1)

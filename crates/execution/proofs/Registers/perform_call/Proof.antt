@@ -4,13 +4,13 @@ use borrow.Author.Needs.{needs}
 use Rattle.stm8.specs.declared.Flow.the-variants.{Call}
 use Rattle.execution.specs.Computing.{computed}
 use Rattle.storage.specs.Storing.{callTrap}
-use Rattle.execution.specs.Performing.{pcAfter, made, performed}
-use Rattle.execution.specs.Internal.{performedBy}
+use Rattle.execution.specs.Performing.{pcAfter}
+use Rattle.execution.specs.Internal.{performedBy, performedAs}
 use Rattle.execution.proofs.Registers.perform_call.Statement.{statement}
 use Rattle.execution.proofs.Registers.perform_call.Tie as tie
 
 pub perform-call-spec : {M : Type 1} → statement M
-unfolding performed made performedBy computed callTrap pcAfter
+unfolding performedAs performedBy computed callTrap pcAfter
 perform-call-spec =
     tie.close
     (tie.spec

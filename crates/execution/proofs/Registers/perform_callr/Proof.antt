@@ -3,13 +3,13 @@ use borrow.Author.Needs.{needs}
 use Rattle.stm8.specs.declared.Flow.the-variants.{CallRelative}
 use Rattle.execution.specs.Computing.{computed}
 use Rattle.storage.specs.Storing.{callTrap}
-use Rattle.execution.specs.Performing.{pcAfter, made, performed}
-use Rattle.execution.specs.Internal.{performedBy}
+use Rattle.execution.specs.Performing.{pcAfter}
+use Rattle.execution.specs.Internal.{performedBy, performedAs}
 use Rattle.execution.proofs.Registers.perform_callr.Statement.{statement}
 use Rattle.execution.proofs.Registers.perform_callr.Tie as tie
 
 pub perform-callr-spec : {M : Type 1} → statement M
-unfolding performed made performedBy computed callTrap pcAfter
+unfolding performedAs performedBy computed callTrap pcAfter
 perform-callr-spec =
     tie.close
     (tie.spec

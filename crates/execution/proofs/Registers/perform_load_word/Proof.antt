@@ -4,13 +4,13 @@ use denote.Ref.{now}
 use borrow.Author.Needs.{needs}
 use Rattle.stm8.specs.declared.Flow.the-variants.{Next}
 use Rattle.execution.specs.Computing.{computed}
-use Rattle.execution.specs.Performing.{pcAfter, made, performed}
-use Rattle.execution.specs.Internal.{performedBy}
+use Rattle.execution.specs.Performing.{pcAfter}
+use Rattle.execution.specs.Internal.{performedBy, performedAs}
 use Rattle.execution.proofs.Registers.perform_load_word.Statement.{statement}
 use Rattle.execution.proofs.Registers.perform_load_word.Tie as tie
 
 pub perform-load-word-spec : {M : Type 1} → statement M
-unfolding performed made performedBy computed pcAfter
+unfolding performedAs performedBy computed pcAfter
 perform-load-word-spec =
     tie.close
     (tie.spec

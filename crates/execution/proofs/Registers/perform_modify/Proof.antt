@@ -5,14 +5,14 @@ use denote.Ref.{now}
 use borrow.Author.Needs.{needs}
 use Rattle.stm8.specs.declared.Flow.the-variants.{Next}
 use Rattle.execution.specs.Computing.{computed}
-use Rattle.execution.specs.Performing.{pcAfter, made, performed}
-use Rattle.execution.specs.Internal.{performedBy}
+use Rattle.execution.specs.Performing.{pcAfter}
+use Rattle.execution.specs.Internal.{performedBy, performedAs}
 use Rattle.execution.proofs.Shapes.{in-range}
 use Rattle.execution.proofs.Registers.perform_modify.Statement.{statement}
 use Rattle.execution.proofs.Registers.perform_modify.Tie as tie
 
 pub perform-modify-spec : {M : Type 1} → statement M
-unfolding performed made performedBy computed pcAfter
+unfolding performedAs performedBy computed pcAfter
 perform-modify-spec =
     tie.close
     (tie.spec

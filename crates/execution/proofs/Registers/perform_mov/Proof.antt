@@ -4,14 +4,13 @@ use denote.Ref.{now}
 use borrow.Author.Needs.{needs}
 use Rattle.stm8.specs.declared.Flow.the-variants.{Next}
 use Rattle.execution.specs.Computing.{computed}
-use Rattle.execution.specs.Performing.{made, performed}
-use Rattle.execution.specs.Internal.{performedBy}
+use Rattle.execution.specs.Internal.{performedBy, performedAs}
 use Rattle.execution.proofs.Shapes.{in-range}
 use Rattle.execution.proofs.Registers.perform_mov.Statement.{statement}
 use Rattle.execution.proofs.Registers.perform_mov.Tie as tie
 
 pub perform-mov-spec : {M : Type 1} → statement M
-unfolding performed made performedBy computed
+unfolding performedAs performedBy computed
 perform-mov-spec =
     tie.close
     (tie.spec

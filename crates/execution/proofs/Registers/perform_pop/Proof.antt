@@ -2,13 +2,12 @@
 use denote.Ref.{now}
 use borrow.Author.Needs.{needs}
 use Rattle.execution.specs.Computing.{computed}
-use Rattle.execution.specs.Performing.{made, performed}
-use Rattle.execution.specs.Internal.{performedBy}
+use Rattle.execution.specs.Internal.{performedBy, performedAs}
 use Rattle.execution.proofs.Registers.perform_pop.Statement.{statement}
 use Rattle.execution.proofs.Registers.perform_pop.Tie as tie
 
 pub perform-pop-spec : {M : Type 1} → statement M
-unfolding performed made performedBy computed
+unfolding performedAs performedBy computed
 perform-pop-spec =
     tie.close
     (tie.spec

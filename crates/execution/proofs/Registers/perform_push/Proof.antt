@@ -5,13 +5,13 @@ use borrow.Author.Needs.{needs}
 use Rattle.stm8.specs.declared.Flow.the-variants.{Next}
 use Rattle.execution.specs.Computing.{computed}
 use Rattle.storage.specs.Storing.{callTrap}
-use Rattle.execution.specs.Performing.{pcAfter, made, performed}
-use Rattle.execution.specs.Internal.{performedBy}
+use Rattle.execution.specs.Performing.{pcAfter}
+use Rattle.execution.specs.Internal.{performedBy, performedAs}
 use Rattle.execution.proofs.Registers.perform_push.Statement.{statement}
 use Rattle.execution.proofs.Registers.perform_push.Tie as tie
 
 pub perform-push-spec : {M : Type 1} → statement M
-unfolding performed made performedBy computed callTrap pcAfter
+unfolding performedAs performedBy computed callTrap pcAfter
 perform-push-spec =
     tie.close
     (tie.spec

@@ -4,13 +4,13 @@ use denote.Ref.{now}
 use borrow.Author.Needs.{needs}
 use Rattle.stm8.specs.declared.Flow.the-variants.{Return}
 use Rattle.execution.specs.Computing.{computed}
-use Rattle.execution.specs.Performing.{pcAfter, made, performed}
-use Rattle.execution.specs.Internal.{performedBy}
+use Rattle.execution.specs.Performing.{pcAfter}
+use Rattle.execution.specs.Internal.{performedBy, performedAs}
 use Rattle.execution.proofs.Registers.perform_ret.Statement.{statement}
 use Rattle.execution.proofs.Registers.perform_ret.Tie as tie
 
 pub perform-ret-spec : {M : Type 1} → statement M
-unfolding performed made performedBy computed pcAfter
+unfolding performedAs performedBy computed pcAfter
 perform-ret-spec =
     tie.close
     (tie.spec

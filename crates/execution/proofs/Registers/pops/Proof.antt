@@ -19,8 +19,8 @@ pops-spec =
     (λ c image.
     let a = c .before .before .before .before .args in
     let e = moves 1 0 (placeOf (a .x) Byte) in
-    rw (c .answer .ensures)
-    (trapped image (a .limits) (a .self) (now (a .memory)) (a .next) (a .c) e (c .before .before .move-trap .result)
+    rw (c .trapped .ensures)
+    (trapped image (a .limits) (a .self) (now (a .memory)) (a .next) (a .cycles) (a .c) e (c .before .before .move-trap .result)
     (move-first (a .limits) (a .self .sp) (a .next) e (c .before .before .move-trap .result)
     (sym (c .before .before .move-trap .ensures (placeOf (a .x) Byte) Next)) (c .before .if1 .taken))
     (c .before .if1 .taken)))

@@ -39,7 +39,7 @@ returns-2 c image next flow call is =
     let sp : a .self .sp + 0 - bytesWide (a .w) ≡ c5 .sp-after .result = sym (rw (c7 .before .before .bytes-wide .ensures) at (c5 .sp-after .ensures)) in
     rw (c .made .ensures, c3 .put .ensures)
     (rw sp at
-    (made image (a .limits) (a .self) (now (a .memory)) next (a .c) (record { pops = 0; pushes = bytesWide (a .w); place = Pushed (a .w); flow = flow })
+    (made image (a .limits) (a .self) (now (a .memory)) next (a .cycles) (a .c) (record { pops = 0; pushes = bytesWide (a .w); place = Pushed (a .w); flow = flow })
     (trap-is c7 next flow call ∙ c5 .before .if1 .left) (c5 .sp-after .result) (a .pc) sp (sym is)))
 
 pub pushes-spec : {M : Type 1} → statement M
@@ -53,8 +53,8 @@ pushes-spec =
     (λ c κs. search needs)
     (λ c image next flow call is.
     let a = c .before .before .before .before .before .before .args in
-    rw (c .answer .ensures)
-    (trapped image (a .limits) (a .self) (now (a .memory)) next (a .c) (record { pops = 0; pushes = bytesWide (a .w); place = Pushed (a .w); flow = flow })
+    rw (c .trapped .ensures)
+    (trapped image (a .limits) (a .self) (now (a .memory)) next (a .cycles) (a .c) (record { pops = 0; pushes = bytesWide (a .w); place = Pushed (a .w); flow = flow })
     (c .before .before .first .result) (trap-is (c .before .before) next flow call) (c .before .if1 .taken)))
     (λ c κs. search needs)
     (λ c. search needs)

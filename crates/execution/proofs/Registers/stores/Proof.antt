@@ -18,13 +18,13 @@ stores-spec =
     (λ c κs. search needs)
     (λ c image memory memory′ limits pops place none at stored.
     let a = c .before .before .args in
-    rw (c .answer .ensures, rw (ne-eqb _ _ (c .before .if1 .taken)) at (stored .after 0))
-    (trapped image limits (a .self) memory (a .next) (a .c) (moves pops 0 place) (a .trap)
+    rw (c .trapped .ensures, rw (ne-eqb _ _ (c .before .if1 .taken)) at (stored .after 0))
+    (trapped image limits (a .self) memory (a .next) (a .cycles) (a .c) (moves pops 0 place) (a .trap)
     (store limits (a .self .sp) (a .next) pops place none ∙ sym (stored .is)) (c .before .if1 .taken)))
     (λ c κs. search needs)
     (λ c image memory memory′ limits pops place none at stored.
     let a = c .before .before .args in
     rw (c .made .ensures, rw (eq-eqb _ _ (c .before .if1 .left)) at (stored .after (a .self .sp + pops - 0)))
-    (made image limits (a .self) memory (a .next) (a .c) (moves pops 0 place)
+    (made image limits (a .self) memory (a .next) (a .cycles) (a .c) (moves pops 0 place)
     (store limits (a .self .sp) (a .next) pops place none ∙ sym (stored .is) ∙ c .before .if1 .left)
     (a .sp) (a .next) (omega (arith, at)) refl)))

@@ -1,24 +1,28 @@
 -- `machine::stepping::step_inside` meets its contract: a trap of decoding, or the instruction.
 use Prim.Native.Nat.{_+_, _≤_, _<_}
-use mathlib.Core.Path.{_≡_, sym, ap, _∙_}
+use mathlib.Core.Path.{sym, ap, _∙_}
 use native.Mathlib.Omega.{arith}
 use denote.Ref.{now}
 use borrow.Author.Needs.{needs}
 use Rattle.code.proofs.Starts.{found-short}
 use Rattle.machine.specs.Step.{decodedStep}
 use Rattle.machine.proofs.StepLaws.{found, undecoded, next-small}
+use Rattle.machine.proofs.CycleLaws.{at-found}
 use Rattle.machine.proofs.stepping.step_inside.Statement.{statement}
 use Rattle.machine.proofs.stepping.step_inside.Tie as tie
 
 returns : tie.Need-returns
 returns c =
-    let c3 = c .before .before .before in
-    let a = c3 .before .before .before .args in
-    rw (
-      ap (decodedStep (now (a .image)) (a .limits) (a .registers) (now (a .memory))) (sym (c3 .fetch .ensures)) ∙
-          undecoded (now (a .image)) (a .limits) (a .registers) (now (a .memory)) (c3 .fetch .result) (c .before .before .match .keys2),
-      c .answer .ensures,
-      c .before .decoding-trap .ensures,
+    let c4 = c .before .before .before .before in
+    let a = c4 .before .before .before .args in (
+      rw (
+        ap (decodedStep (now (a .image)) (a .limits) (a .registers) (now (a .memory))) (sym (c4 .fetch .ensures)) ∙
+            undecoded (now (a .image)) (a .limits) (a .registers) (now (a .memory)) (c4 .fetch .result) (c .before .before .before .match .keys2),
+        c .without-cycles .ensures,
+        c .before .answer .ensures,
+        c .before .before .decoding-trap .ensures,
+      ),
+      rw (c .without-cycles .ensures, c .before .answer .ensures),
     )
 
 -- an instruction has at most five bytes
@@ -37,10 +41,16 @@ returns-2 : tie.Need-returns-2
 returns-2 c =
     let c6 = c .before .before .before .before .before .before in
     let c8 = c6 .before .before in
-    let a = c8 .before .before .before .args in
-    ap (decodedStep (now (a .image)) (a .limits) (a .registers) (now (a .memory))) (sym (c8 .fetch .ensures) ∙ c6 .decoded .given .1) ∙
-    found (now (a .image)) (a .limits) (a .registers) (now (a .memory)) _ _ ∙
-    c .before .before .step .ensures (next (c .before .before .before)) (c8 .before .before .before .pre .1 .0)
+    let start = c8 .before .before .before in
+    let a = start .args in
+    let stands = sym (c8 .fetch .ensures) ∙ c6 .decoded .given .1 in
+    let made = c .before .before .step .ensures in (
+      ap (decodedStep (now (a .image)) (a .limits) (a .registers) (now (a .memory))) stands ∙
+          found (now (a .image)) (a .limits) (a .registers) (now (a .memory)) _ _ ∙
+          made .0 (next (c .before .before .before)) (start .pre .1 .0),
+      rw (at-found (now (a .image)) (a .registers) (now (a .memory)) _ _ stands)
+          (made .1 (next (c .before .before .before)) (start .pre .1 .0)),
+    )
 
 pub step-inside-spec : {M : Type 1} → statement M
 step-inside-spec =
@@ -48,6 +58,7 @@ step-inside-spec =
     (tie.spec
     (λ c κs. search needs)
     (λ c. search needs)
+    (λ c κs. search needs)
     (λ c κs. search needs)
     (λ c κs. search needs)
     returns

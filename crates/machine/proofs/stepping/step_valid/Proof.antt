@@ -1,5 +1,5 @@
 -- `machine::stepping::step_valid` meets its contract, by the ways through a step.
-use mathlib.Core.Path.{_≡_, sym, ap, _∙_}
+use mathlib.Core.Path.{_≡_, sym, _∙_}
 use denote.Ref.{now}
 use borrow.Author.Tests.{eq-eqb, ne-eqb}
 use borrow.Author.Needs.{needs}
@@ -27,18 +27,27 @@ trap-is c =
 
 returns : tie.Need-returns
 returns c =
-    let a = c .before .before .before .before .args in
-    rw (finished (now (a .image)) (a .limits) (a .registers) (now (a .memory)) (eq-eqb _ _ (c .before .if1 .taken)), c .answer .ensures)
+    let a = c .before .before .before .before .before .args in (
+      rw (
+        finished (now (a .image)) (a .limits) (a .registers) (now (a .memory)) (eq-eqb _ _ (c .before .before .if1 .taken)),
+        c .without-cycles .ensures,
+        c .before .answer .ensures,
+      ),
+      rw (c .without-cycles .ensures, c .before .answer .ensures),
+    )
 
 returns-2 : tie.Need-returns-2
 returns-2 c =
-    let c2 = c .before .before in
-    let c5 = c2 .before .before .before in
-    let a = c5 .before .before .before .args in
-    rw (
-      trapped-early (now (a .image)) (a .limits) (a .registers) (now (a .memory)) (ne-eqb _ _ (c5 .if1 .left)) _ (trap-is c2)
-          (ne-eqb _ _ (c .before .if2 .taken)),
-      c .answer2 .ensures,
+    let c3 = c .before .before .before in
+    let c6 = c3 .before .before .before in
+    let a = c6 .before .before .before .args in (
+      rw (
+        trapped-early (now (a .image)) (a .limits) (a .registers) (now (a .memory)) (ne-eqb _ _ (c6 .if1 .left)) _ (trap-is c3)
+            (ne-eqb _ _ (c .before .before .if2 .taken)),
+        c .without-cycles2 .ensures,
+        c .before .answer2 .ensures,
+      ),
+      rw (c .without-cycles2 .ensures, c .before .answer2 .ensures),
     )
 
 step-inside-requires : tie.Need-step-inside-requires
@@ -54,15 +63,20 @@ returns-3 c =
     let c5 = c4 .before in
     let c8 = c5 .before .before .before in
     let a = c8 .before .before .before .args in
-    decodes (now (a .image)) (a .limits) (a .registers) (now (a .memory)) (ne-eqb _ _ (c8 .if1 .left)) _ (trap-is c5) (eq-eqb _ _ (c4 .if2 .left)) ∙
-    c .before .before .step-inside .ensures
+    let made = c .before .before .step-inside .ensures in (
+      decodes (now (a .image)) (a .limits) (a .registers) (now (a .memory)) (ne-eqb _ _ (c8 .if1 .left)) _ (trap-is c5) (eq-eqb _ _ (c4 .if2 .left)) ∙
+          made .0,
+      made .1,
+    )
 
 pub step-valid-spec : {M : Type 1} → statement M
 step-valid-spec =
     tie.close
     (tie.spec
     (λ c κs. search needs)
+    (λ c κs. search needs)
     returns
+    (λ c κs. search needs)
     (λ c κs. search needs)
     (λ c κs. search needs)
     (λ c κs. search needs)
