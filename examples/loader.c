@@ -1,4 +1,5 @@
-/* A loader in C: checks an image, lists it, starts it and runs it, and prints cycles, registers and the bytes that it stored.
+/* A loader in C: checks an image, lists it, starts it and runs it, and prints cycles, registers and the bytes that it stored. Then
+ * it steps through one, and back.
  *
  *     rt staticlib gate_c
  *     gcc -Iinclude examples/loader.c target/staticlib/libgate_c.a -o loader
@@ -114,11 +115,44 @@ static void load(const char *name, const uint8_t *image, size_t image_length)
     print_state(registers);
 }
 
+/* The registers before a step, and the bytes that it overwrote, as they were. */
+static void print_record(const struct gate_record *record)
+{
+    printf("  record: PC %06" PRIX32 ", bytes %" PRIu32, record->registers[GATE_PC], record->count);
+    for (uint32_t number = 0; number < record->count; number++)
+        printf(", %04" PRIX32 " was %02" PRIX32, record->bytes[number].address, record->bytes[number].value);
+    printf("\n");
+}
+
+/* Two steps of the routine that stores 5, over a byte that held AA, and back again: the last record first. */
+static void step_and_back(void)
+{
+    enum { STEPS = 2 };
+    struct gate_record records[STEPS];
+    uint32_t registers[GATE_REGISTERS] = {0};
+    uint16_t report[GATE_REPORT];
+    uint64_t cycles[1];
+    memset(memory, 0, sizeof memory);
+    memory[0x0010] = 0xAA;
+    gate_start(store_five, sizeof store_five, &limits, marks, GATE_MARKS_ENOUGH, memory, sizeof memory, registers, report);
+    printf("store five, step by step and back\n");
+    print_state(registers);
+    for (int number = 0; number < STEPS; number++) {
+        gate_step(store_five, sizeof store_five, &limits, memory, sizeof memory, registers, cycles, &records[number]);
+        print_record(&records[number]);
+    }
+    print_state(registers);
+    for (int number = STEPS - 1; number >= 0; number--)
+        gate_step_back(&records[number], memory, sizeof memory, registers);
+    print_state(registers);
+}
+
 int main(void)
 {
     load("store five", store_five, sizeof store_five);
     load("sum to a hundred", sum_to_hundred, sizeof sum_to_hundred);
     load("trim", trim, sizeof trim);
     load("store outside", store_outside, sizeof store_outside);
+    step_and_back();
     return 0;
 }

@@ -1,13 +1,13 @@
-/* The gate loader for C: check an image, start it, step it, run it, and decode an instruction.
+/* The gate loader for C: check an image, start it, step it, step back, run it, and decode an instruction.
  *
  * Every function is total: whatever the bytes, numbers and lengths, it returns, and what it leaves in each cell is said below.
  * What C must see to, as for any pointer: each pointer is not null (where a length is 0 any address that is not null will do),
  * aligned for its type, and leads to as many cells as its length, its array type or its struct says; and no cell that a function
  * writes lies in another of its arguments.
  *
- * Numbers are those of document 01; addresses are 16 bits, PC has 24. The cell of PC has 32 bits and is read whole: a value above
- * FFFFFF is in no code, so a step that is not refused traps 22 there (21 where SP is out of its range too) and leaves the cell as
- * it was. No step that is made leaves PC above 01007F.
+ * Numbers are those of document 01 and of the change requests to it; addresses are 16 bits, PC has 24. The cell of PC has 32 bits
+ * and is read whole: a value above FFFFFF is in no code, so a step that is not refused traps 22 there (21 where SP is out of its
+ * range too) and leaves the cell as it was. No step that is made leaves PC above 01007F.
  *
  * An image is SLU of version 0001 or 0002. The two have the same layout, and 0002 leaves CALLR out of the set: its operand is a
  * distance, so it breaks when tools move routines. All else is the same in both.
@@ -37,7 +37,7 @@ extern "C" {
 
 /* Answers of every function: 0, a refusal, a trap, or 64 and 65, which document 01 has no number for. */
 enum gate_number {
-    GATE_OK = 0,                    /* accepted, started, made, decoded */
+    GATE_OK = 0,                    /* accepted, started, made, gone back, decoded */
     GATE_LIMITS = 1,                /* limits break a rule of struct gate_limits */
     GATE_NOT_SLU = 2,               /* under 8 bytes, or not SLU */
     GATE_VERSION = 3,               /* version neither 0001 nor 0002 */
@@ -60,11 +60,12 @@ enum gate_number {
     GATE_TRAP_OUTSIDE = 23,         /* outside the set; in version 0002 CALLR too */
     GATE_TRAP_STACK = 24,           /* SP would leave its range */
     GATE_TRAP_STORE = 25,           /* a direct store not wholly in a grant, or an SP store outside SP + 1 to stack high */
+    GATE_RECORD = 26,               /* a record of more than two bytes, or with one at an address above 7FFF */
     GATE_FINISHED = 64,             /* a step that began at PC 0; a run that reached it */
     GATE_SPENT = 65                 /* a run that used up its budget, PC not 0 */
 };
 
-#define GATE_MEMORY_BYTES 32768u    /* the memory that start, step and run are lent: addresses 0000 to 7FFF */
+#define GATE_MEMORY_BYTES 32768u    /* the memory that start, step, step back and run are lent: addresses 0000 to 7FFF */
 #define GATE_MARKS_ENOUGH 4096u     /* marks that are enough for every image */
 #define GATE_TEXT_BYTES 24u         /* the cells of a text, its final 0 included */
 
@@ -90,6 +91,20 @@ typedef char gate_limits_are_six_cells[sizeof(struct gate_limits) == 12 ? 1 : -1
 
 /* The cells of a register array. */
 enum gate_register { GATE_A, GATE_X, GATE_Y, GATE_CC, GATE_SP, GATE_PC, GATE_REGISTERS };
+
+/* A byte of memory that a step overwrote: its address, and what it held before. */
+struct gate_byte { uint32_t address, value; };
+
+/* The record of a step: the registers before it, and the bytes of memory that it overwrote, whether their values changed or not:
+ * how many, and each of them, the lower address first. A step overwrites two at most, and leaves zeros in the bytes past count. */
+struct gate_record {
+    uint32_t registers[GATE_REGISTERS];
+    uint32_t count;
+    struct gate_byte bytes[2];
+};
+
+/* The library reads and writes a record as eleven 32-bit cells, in this order and with nothing between them. */
+typedef char gate_record_is_eleven_cells[sizeof(struct gate_record) == 44 ? 1 : -1];
 
 /* The cells of a report. */
 enum gate_report { GATE_OFFSET, GATE_NEED, GATE_COUNT, GATE_REPORT };
@@ -119,12 +134,27 @@ uint8_t gate_start(const uint8_t *image, size_t image_length,
 
 /* Makes one step. The answer is 0 (made), GATE_FINISHED, a trap from 21 to 25, or a refusal (17, 1 to 4). Each register is read
  * by its low 8 bits (A, CC), 16 bits (X, Y, SP) or 32 bits (PC), whatever the answer.
- *   0: registers and memory are those after the instruction, and PC may now be 0. cycles: those of the instruction.
- *   GATE_FINISHED, a trap or a refusal: registers come back as they were read, and memory is as it was. cycles: 0. */
+ *   0: registers and memory are those after the instruction, and PC may now be 0. cycles: those of the instruction. record: the
+ *   registers as they were read, and every byte that the instruction stored, as it was before.
+ *   GATE_FINISHED, a trap or a refusal: registers come back as they were read, and memory is as it was. cycles: 0. record: the
+ *   registers, and no bytes. */
 uint8_t gate_step(const uint8_t *image, size_t image_length,
                   const struct gate_limits *limits,
                   uint8_t *memory, size_t memory_length,
-                  uint32_t registers[GATE_REGISTERS], uint64_t cycles[1]);
+                  uint32_t registers[GATE_REGISTERS], uint64_t cycles[1],
+                  struct gate_record *record);
+
+/* Steps back by a record: writes the bytes that it counts, in its order, so that of two at one address the later one stays. The
+ * answer is 0, 17, or 26 where the record counts more than two bytes or one that it counts has an address above 7FFF; refused, no
+ * memory is written. registers: the record's, whatever the answer.
+ * Registers in a record are read as in gate_step, a value by its low 8 bits, count and addresses whole; a byte that is not counted
+ * is not looked at.
+ * Given the record of a step and the memory as that step left it, registers and memory are again what they were before the step,
+ * whatever the step answered; and it is refused only where the step was refused with 17. The records of several steps are given
+ * back in the reverse order. gate_run makes no records: those from before a run are of no use after it. */
+uint8_t gate_step_back(const struct gate_record *record,
+                       uint8_t *memory, size_t memory_length,
+                       uint32_t registers[GATE_REGISTERS]);
 
 /* Makes steps until the routine finishes, traps or budget steps are made. The answer is GATE_FINISHED, GATE_SPENT, a trap, or a
  * refusal (17, 1 to 4). steps: the number of steps made, the trapping one not counted; 0 where refused. cycles: the sum over the

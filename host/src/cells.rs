@@ -3,7 +3,7 @@
 
 use crate::types::{Limits, TEXT_BYTES};
 
-/// The answer of a step that was made, a check that accepted, bytes that were decoded.
+/// The answer of a step that was made or gone back over, a check that accepted, bytes that were decoded.
 pub const OK: u8 = 0;
 /// The answer of a step that began at PC 0, and of a run that reached it.
 pub const FINISHED: u8 = 64;
@@ -17,11 +17,21 @@ pub type RegisterCells = [u32; 6];
 /// The cells of the cycles of an instruction: not taken, taken.
 pub type CycleCells = [u8; 2];
 
-// The library reads limits as six 16-bit cells.
+/// The cells of the record of a step: the registers, and the bytes, so many of them, each as its address and its value.
+#[derive(Clone, Copy, Debug, Default, PartialEq, Eq)]
+#[repr(C)]
+pub struct RecordCells {
+    pub registers: RegisterCells,
+    pub count: u32,
+    pub bytes: [[u32; 2]; 2],
+}
+
+// The library reads limits as six 16-bit cells, and reads and writes a record as eleven of 32 bits.
 const _: () = assert!(size_of::<Limits>() == 6 * size_of::<u16>());
+const _: () = assert!(size_of::<RecordCells>() == 11 * size_of::<u32>());
 
 mod c {
-    use super::{CycleCells, Limits, RegisterCells, ReportCells, TEXT_BYTES};
+    use super::{CycleCells, Limits, RecordCells, RegisterCells, ReportCells, TEXT_BYTES};
 
     // The archive is named by build.rs; the signatures are those of include/gate.h.
     extern "C" {
@@ -52,6 +62,13 @@ mod c {
             memory_length: usize,
             registers: *mut RegisterCells,
             cycles: *mut [u64; 1],
+            record: *mut RecordCells,
+        ) -> u8;
+        pub fn gate_step_back(
+            record: *const RecordCells,
+            memory: *mut u8,
+            memory_length: usize,
+            registers: *mut RegisterCells,
         ) -> u8;
         pub fn gate_run(
             image: *const u8,
@@ -106,9 +123,22 @@ pub fn start(
     }
 }
 
-pub fn step(image: &[u8], limits: &Limits, memory: &mut [u8], registers: &mut RegisterCells, cycles: &mut [u64; 1]) -> u8 {
-    // SAFETY: as for `check`: every pointer comes with its length from one reference, and what is written from `&mut`.
-    unsafe { c::gate_step(image.as_ptr(), image.len(), limits, memory.as_mut_ptr(), memory.len(), registers, cycles) }
+pub fn step(
+    image: &[u8],
+    limits: &Limits,
+    memory: &mut [u8],
+    registers: &mut RegisterCells,
+    cycles: &mut [u64; 1],
+    record: &mut RecordCells,
+) -> u8 {
+    // SAFETY: as for `check`: every pointer comes with its length from one reference, and what is written from `&mut`. `RecordCells`
+    // is `repr(C)`: eleven `u32` in the order of gate.h's struct, with nothing between them.
+    unsafe { c::gate_step(image.as_ptr(), image.len(), limits, memory.as_mut_ptr(), memory.len(), registers, cycles, record) }
+}
+
+pub fn step_back(record: &RecordCells, memory: &mut [u8], registers: &mut RegisterCells) -> u8 {
+    // SAFETY: as for `step`.
+    unsafe { c::gate_step_back(record, memory.as_mut_ptr(), memory.len(), registers) }
 }
 
 pub fn run(

@@ -7,13 +7,15 @@
 
 #[allow(unsafe_code)]
 pub mod cells;
+mod history;
 pub mod slu;
 pub mod twin;
 mod types;
 
+pub use history::History;
 pub use types::*;
 
-use cells::{CycleCells, RegisterCells, ReportCells};
+use cells::{CycleCells, RecordCells, RegisterCells, ReportCells};
 
 /// Checks an image under limits.
 ///
@@ -44,15 +46,34 @@ pub fn start(
 }
 
 /// Makes one step. Unless it is made, registers and memory stay as they were, and it takes no cycles.
-pub fn step(image: &[u8], limits: &Limits, memory: &mut [u8], registers: &mut Registers) -> Result<Step, Refusal> {
+///
+/// The record is of every step, whatever the answer: the registers before it and, where it was made, the bytes that it overwrote.
+pub fn step(image: &[u8], limits: &Limits, memory: &mut [u8], registers: &mut Registers) -> (Result<Step, Refusal>, Record) {
     let mut cells = registers.to_cells();
-    let mut cycles = [0];
-    let number = cells::step(image, limits, memory, &mut cells, &mut cycles);
+    let (mut cycles, mut record) = ([0], RecordCells::default());
+    let number = cells::step(image, limits, memory, &mut cells, &mut cycles, &mut record);
     *registers = Registers::from_cells(&cells);
-    match number {
+    let answer = match number {
         cells::OK => Ok(Step::Made { cycles: cycles[0] }),
         cells::FINISHED => Ok(Step::Finished),
         _ => trap_or_refusal(number).map(Step::Trapped),
+    };
+    (answer, Record::from_cells(&record))
+}
+
+/// Steps back by a record: writes the bytes that it counts, in its order. Refused with 17 or 26, it writes none. Registers are the
+/// record's, whatever the answer.
+///
+/// Given the record of a step and the memory as that step left it, registers and memory are again what they were before the step.
+/// The records of several steps are given back in the reverse order; [`History`] keeps them so. A run makes no records, and those
+/// from before it are of no use after it.
+pub fn step_back(record: &Record, memory: &mut [u8], registers: &mut Registers) -> Result<(), Refusal> {
+    let mut cells = RegisterCells::default();
+    let number = cells::step_back(&record.to_cells(), memory, &mut cells);
+    *registers = Registers::from_cells(&cells);
+    match number {
+        cells::OK => Ok(()),
+        _ => Err(refusal(number)),
     }
 }
 
@@ -92,6 +113,20 @@ impl Registers {
     pub fn from_cells(cells: &RegisterCells) -> Registers {
         let [a, x, y, cc, sp, pc] = *cells;
         Registers { a: a as u8, x: x as u16, y: y as u16, cc: cc as u8, sp: sp as u16, pc }
+    }
+}
+
+impl Record {
+    /// The record struct of the C interface.
+    pub fn to_cells(&self) -> RecordCells {
+        let bytes = self.bytes.map(|Overwritten { address, value }| [address, value.into()]);
+        RecordCells { registers: self.registers.to_cells(), count: self.count, bytes }
+    }
+
+    /// Registers are read as [`Registers::from_cells`] does, a value by its low 8 bits, count and addresses whole.
+    pub fn from_cells(cells: &RecordCells) -> Record {
+        let bytes = cells.bytes.map(|[address, value]| Overwritten { address, value: value as u8 });
+        Record { registers: Registers::from_cells(&cells.registers), count: cells.count, bytes }
     }
 }
 

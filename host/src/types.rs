@@ -1,6 +1,6 @@
 //! What goes into the loader and what it answers, in the words of document 01.
 
-/// The memory that start, step and run are lent: addresses 0000 to 7FFF.
+/// The memory that start, step, step back and run are lent: addresses 0000 to 7FFF.
 pub const MEMORY_BYTES: usize = 32_768;
 /// The most code bytes of an image, so as many marks are enough for every image.
 pub const MARKS_ENOUGH: usize = 4_096;
@@ -46,7 +46,27 @@ pub struct Registers {
     pub pc: u32,
 }
 
-/// Why an image, limits or lent memory were refused.
+/// A byte of memory that a step overwrote.
+#[derive(Clone, Copy, Debug, Default, PartialEq, Eq)]
+pub struct Overwritten {
+    pub address: u32,
+    /// What it held before.
+    pub value: u8,
+}
+
+/// The record of a step: the registers before it and the bytes of memory that it overwrote, whether their values changed or not,
+/// the lower address first.
+///
+/// One made by hand may count more bytes than there are, and have any addresses: stepping back refuses it then.
+#[derive(Clone, Copy, Debug, Default, PartialEq, Eq)]
+pub struct Record {
+    pub registers: Registers,
+    /// How many of the bytes are meant. The others are not looked at, and are zeros where a step made the record.
+    pub count: u32,
+    pub bytes: [Overwritten; 2],
+}
+
+/// Why an image, limits, lent memory or a record were refused.
 #[derive(Clone, Copy, Debug, PartialEq, Eq)]
 #[repr(u8)]
 pub enum Refusal {
@@ -84,10 +104,12 @@ pub enum Refusal {
     Stack = 16,
     /// The memory is not 32,768 bytes.
     Memory = 17,
+    /// A record of more than two bytes, or with one at an address above 7FFF.
+    Record = 26,
 }
 
 impl Refusal {
-    const ALL: [Refusal; 17] = [
+    const ALL: [Refusal; 18] = [
         Refusal::Limits,
         Refusal::NotSlu,
         Refusal::Version,
@@ -105,9 +127,10 @@ impl Refusal {
         Refusal::FallsOff,
         Refusal::Stack,
         Refusal::Memory,
+        Refusal::Record,
     ];
 
-    /// Document 01's number, 1 to 17.
+    /// The number of documents 01 and 02: 1 to 17, or 26.
     pub fn number(self) -> u8 {
         self as u8
     }

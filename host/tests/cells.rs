@@ -1,6 +1,7 @@
 //! The cells of the C interface: each function writes those that it is given, and none beside them.
 
-use gate_host::{cells, Area, Limits, MEMORY_BYTES, TEXT_BYTES};
+use gate_host::cells::{self, RecordCells};
+use gate_host::{Area, Limits, MEMORY_BYTES, TEXT_BYTES};
 use std::hint::black_box;
 
 const LIMITS: Limits =
@@ -41,7 +42,7 @@ fn decode_writes_its_cells_alone() {
 }
 
 #[test]
-fn check_start_step_and_run_write_their_cells_alone() {
+fn all_others_write_their_cells_alone() {
     let mut marks = Guarded::new([0; 5]);
     let mut report = Guarded::new([0; 3]);
     assert_eq!(cells::check(IMAGE, &LIMITS, &mut marks.cells, &mut report.cells), cells::OK);
@@ -52,9 +53,13 @@ fn check_start_step_and_run_write_their_cells_alone() {
     assert_eq!(cells::start(IMAGE, &LIMITS, &mut marks.cells, lent, given, &mut report.cells), cells::OK);
     assert!(marks.is_whole() && report.is_whole() && memory.is_whole() && registers.is_whole(), "start");
     let mut cycles = Guarded::new([0]);
+    let mut record = Guarded::new(RecordCells::default());
     let (lent, given) = (&mut memory.cells, &mut registers.cells);
-    assert_eq!(cells::step(IMAGE, &LIMITS, lent, given, &mut cycles.cells), cells::OK);
-    assert!(memory.is_whole() && registers.is_whole() && cycles.is_whole(), "step");
+    assert_eq!(cells::step(IMAGE, &LIMITS, lent, given, &mut cycles.cells, &mut record.cells), cells::OK);
+    assert!(memory.is_whole() && registers.is_whole() && cycles.is_whole() && record.is_whole(), "step");
+    let (lent, given) = (&mut memory.cells, &mut registers.cells);
+    assert_eq!(cells::step_back(&record.cells, lent, given), cells::OK);
+    assert!(memory.is_whole() && registers.is_whole() && record.is_whole(), "step back");
     let mut steps = Guarded::new([0]);
     let (lent, given) = (&mut memory.cells, &mut registers.cells);
     assert_eq!(cells::run(IMAGE, &LIMITS, lent, given, 9, &mut steps.cells, &mut cycles.cells), cells::FINISHED);
@@ -65,27 +70,58 @@ fn check_start_step_and_run_write_their_cells_alone() {
 fn registers_are_read_by_their_width() {
     let mut memory = vec![0; MEMORY_BYTES];
     let mut registers = [0x0501, 0x0006_0002, 0x0007_0003, 0x0804, 0x0009_03FD, 0x0000_8000];
-    assert_eq!(cells::step(IMAGE, &LIMITS, &mut memory, &mut registers, &mut [0]), cells::OK);
+    let mut record = RecordCells::default();
+    assert_eq!(cells::step(IMAGE, &LIMITS, &mut memory, &mut registers, &mut [0], &mut record), cells::OK);
     assert_eq!(registers, [5, 2, 3, 0, 0x03FD, 0x8002]);
+    assert_eq!(record.registers, [1, 2, 3, 4, 0x03FD, 0x8000]);
+}
+
+/// Registers and values by their low bits, count and addresses whole; what is not counted is not looked at.
+#[test]
+fn records_are_read_by_their_width() {
+    let registers = [0x0501, 0x0006_0002, 0x0007_0003, 0x0804, 0x0009_03FD, 0x8000_0000];
+    let back = |count, bytes| {
+        let (mut memory, mut after) = (vec![0xAA; MEMORY_BYTES], [0xA5A5_A5A5; 6]);
+        let number = cells::step_back(&RecordCells { registers, count, bytes }, &mut memory, &mut after);
+        assert_eq!(after, [1, 2, 3, 4, 0x03FD, 0x8000_0000]);
+        (number, memory[0x0010], memory[0x0011])
+    };
+    let good = [[0x0010, 0xFFFF_FF77], [0x0011, 0x0100]];
+    assert_eq!(back(2, good), (cells::OK, 0x77, 0x00));
+    assert_eq!(back(1, good), (cells::OK, 0x77, 0xAA));
+    assert_eq!(back(1, [good[0], [u32::MAX, 0]]), (cells::OK, 0x77, 0xAA));
+    assert_eq!(back(0, [[u32::MAX, 0]; 2]), (cells::OK, 0xAA, 0xAA));
+    for count in [3, 255, 0x0100, 0x0102, 0x0001_0000, 0x0001_0002, 0x8000_0001, u32::MAX] {
+        assert_eq!(back(count, good), (26, 0xAA, 0xAA), "count {count:X}");
+    }
+    for address in [0x8000, 0x8011, 0x0001_0011, 0x0100_0011, 0x8000_0011, u32::MAX] {
+        assert_eq!(back(2, [good[0], [address, 0]]), (26, 0xAA, 0xAA), "address {address:X}");
+        assert_eq!(back(2, [[address, 0], good[1]]), (26, 0xAA, 0xAA), "address {address:X}");
+    }
 }
 
 /// What a cell of cycles holds before a call: another number in each of its bytes than any that is written there.
 const BLANK: u64 = 0xA5A5_A5A5_A5A5_A5A5;
+/// The same for the cells of a record.
+const BLANK_RECORD: RecordCells = RecordCells { registers: [0xA5A5_A5A5; 6], count: 0xA5A5_A5A5, bytes: [[0xA5A5_A5A5; 2]; 2] };
 
-/// The number and cycles of a step, and the number, steps and cycles of a run, from the same SP and PC.
+/// The number and cycles of a step, and the number, steps and cycles of a run, from the same SP and PC. Nothing is stored, so the
+/// step's record has the registers and zeros.
 fn step_and_run(image: &[u8], limits: &Limits, lent: usize, sp: u32, pc: u32) -> ((u8, u64), (u8, u32, u64)) {
     let mut memory = vec![0; lent];
     let (mut steps, mut cycles) = ([0xA5A5_A5A5], [BLANK]);
-    let step = cells::step(image, limits, &mut memory, &mut [0, 0, 0, 0, sp, pc], &mut cycles);
+    let (given, mut record) = ([1, 2, 3, 4, sp, pc], BLANK_RECORD);
+    let step = cells::step(image, limits, &mut memory, &mut given.clone(), &mut cycles, &mut record);
+    assert_eq!(record, RecordCells { registers: given, ..RecordCells::default() }, "the record of {step}");
     let step = (step, cycles[0]);
     cycles = [BLANK];
     let run = cells::run(image, limits, &mut memory, &mut [0, 0, 0, 0, sp, pc], 9, &mut steps, &mut cycles);
     (step, (run, steps[0], cycles[0]))
 }
 
-/// A step that is finished, trapped or refused takes no cycles, and the cell says so.
+/// A step that is finished, trapped or refused takes no cycles and overwrites no byte, and the cells say so.
 #[test]
-fn cycles_are_written_whatever_the_answer() {
+fn cycles_and_records_are_written_whatever_the_answer() {
     let none = |number: u8| ((number, 0), (number, 0, 0));
     let good = |sp, pc| step_and_run(IMAGE, &LIMITS, MEMORY_BYTES, sp, pc);
     assert_eq!(good(0x03FD, 0x8000), ((cells::OK, 1), (cells::FINISHED, 3, 6)));

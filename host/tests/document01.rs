@@ -321,7 +321,7 @@ fn start_and_run() {
     assert_eq!(finished, Ok(Run { ending: Ending::Finished, steps: 1, cycles: 4 }));
     assert_eq!(registers, Registers { a: 5, cc: 0, sp: 0x03FF, pc: 0, ..given });
     assert_eq!(memory[0x10], 5);
-    assert_eq!(gate_host::step(&file, &LIMITS, &mut memory, &mut registers), Ok(Step::Finished));
+    assert_eq!(gate_host::step(&file, &LIMITS, &mut memory, &mut registers).0, Ok(Step::Finished));
     let short = gate_host::start(&file, &LIMITS, &mut marks, &mut memory[..100], &mut registers);
     assert_eq!(short, refused(17, 0));
     assert_eq!(registers, Registers::default());
@@ -436,11 +436,11 @@ fn order_of_a_bad_second_grant() {
     let file = image(&[&[0xC7, 0x03, 0xFF, 0x81]]);
     let (mut memory, mut marks) = (vec![0xAA; MEMORY_BYTES], [BLANK; 4]);
     let mut registers = BEGIN;
-    assert_eq!(gate_host::step(&file, &bad, &mut memory, &mut registers), Err(Refusal::Limits));
-    assert_eq!(gate_host::step(&file, &bad, &mut memory[..100], &mut registers), Err(Refusal::Memory));
+    assert_eq!(gate_host::step(&file, &bad, &mut memory, &mut registers).0, Err(Refusal::Limits));
+    assert_eq!(gate_host::step(&file, &bad, &mut memory[..100], &mut registers).0, Err(Refusal::Memory));
     assert_eq!(gate_host::run(&file, &bad, &mut memory, &mut registers, 9), Err(Refusal::Limits));
     assert_eq!(registers, BEGIN);
-    assert_eq!(twin::step(&file, &bad, &mut memory, &mut registers), Err(Refusal::Limits));
+    assert_eq!(twin::step(&file, &bad, &mut memory, &mut registers).0, Err(Refusal::Limits));
     assert_eq!(twin::run(&file, &bad, &mut memory, &mut registers, 9), Err(Refusal::Limits));
     assert_eq!(registers, BEGIN);
     assert_eq!(gate_host::start(&file, &bad, &mut marks, &mut memory[..100], &mut registers), refused(17, 0));

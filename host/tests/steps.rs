@@ -1,4 +1,4 @@
-//! The twin's steps against those that were recorded from a simulator: 32 for each of the 260 op-codes.
+//! The twin's steps against those that were recorded from a simulator, 32 for each of the 260 op-codes, and back over each.
 
 use gate_host::{slu, twin, Area, Limits, Registers, Step, MEMORY_BYTES};
 use std::fs;
@@ -47,11 +47,14 @@ fn recorded_steps() {
         for (address, byte) in cells(&record[40..46]) {
             expected[address] = byte;
         }
-        let mut after = registers(&record[6..]);
-        let answer = twin::step(&image_of(record), &LIMITS, &mut memory, &mut after);
+        let (before, given) = (memory.clone(), registers(&record[6..]));
+        let mut after = given;
+        let (answer, made) = twin::step(&image_of(record), &LIMITS, &mut memory, &mut after);
         assert!(matches!(answer, Ok(Step::Made { .. })), "record {number}: {answer:?}, {record:02X?}");
         assert_eq!(after, registers(&record[29..]), "record {number}: {record:02X?}");
         assert!(memory == expected, "memory after record {number}: {record:02X?}");
+        let back = twin::step_back(&made, &mut memory, &mut after);
+        assert!(back == Ok(()) && after == given && memory == before, "step back over record {number}: {record:02X?}");
     }
     println!("{} recorded steps: no difference", records.len() / RECORD);
 }

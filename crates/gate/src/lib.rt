@@ -1,4 +1,4 @@
-// Starting a gate routine; check, step and run beside it.
+// Starting a gate routine; check, step, step back and run beside it.
 ghost use mathlib.Core.Path.{_≡_};
 ghost use Prim.Native.Nat.{_+_, _≤_, _<_};
 ghost use lib.ListN.{length};
@@ -21,11 +21,14 @@ pub use machine::RunAnswer;
 pub use machine::StepAnswer;
 pub use machine::Stepped;
 pub use machine::TimedRun;
-pub use machine::TimedStep;
 pub use machine::run;
 pub use machine::run_number;
-pub use machine::step;
 pub use machine::step_number;
+pub use records::Record;
+pub use records::RecordedStep;
+pub use records::SteppedBack;
+pub use records::step;
+pub use records::step_back;
 
 // What starting answers: the check's verdict, or 17, and the registers to go on from, all 0 where it is refused.
 pub struct Started {

@@ -1,8 +1,9 @@
 -- From what a call of the gate answers to the cells that C reads.
 use Prim.Native.Nat.{ℕ, _<_}
-use mathlib.Core.Path.{_≡_, refl}
+use mathlib.Core.Path.{_≡_, refl, sym, ap, _∙_}
 use mathlib.Core.List.{List, [], _∷_}
 use native.Mathlib.Nat.{mod-eq-of-lt}
+use lib.ListN.{getD}
 use Rattle.image.specs.declared.Limits.{Limits}
 use Rattle.rules.specs.Outcome.{valuesOf}
 use Rattle.acceptance.specs.Check.{checked}
@@ -14,7 +15,13 @@ use Rattle.execution.specs.declared.Registers.{Registers}
 use Rattle.execution.specs.declared.Stepped.{Stepped}
 use Rattle.machine.specs.declared.Ran.{Ran}
 use Rattle.gate.specs.declared.Started.{Started}
+use Rattle.records.specs.Recording.{twoCells, recorded}
+use Rattle.records.specs.Back.{steppedBack}
+use Rattle.records.proofs.GivingBack.{registers-back}
+use Rattle.records.specs.declared.Record.{Record}
+use Rattle.records.specs.declared.SteppedBack.{SteppedBack}
 use Rattle.gate_c.specs.Cells.{reportCells, registersIn, registerCells, startedBy, startedCells, steppedCells, ranCells}
+use Rattle.gate_c.specs.Cells.{recordIn, recordCells, backCells}
 
 pub checked-by : (image marks marks′ : List ℕ) (limits limits′ : Limits) (v : Verdict) (number : ℕ) (report : List ℕ) →
     limits ≡ limits′ → checked image limits marks ≡ (v, marks′) → number ≡ valuesOf v .number → report ≡ reportCells v →
@@ -46,15 +53,44 @@ started-by image marks marks′ memory memory′ cells limits limits′ given s 
     let by-cells = rw (same-limits, same-registers) at e in
     (rw (by-cells, n, r, o .0), rw by-cells (o .1))
 
-pub stepped-by : (image memory memory′ cells : List ℕ) (limits limits′ : Limits) (given : Registers) (s : Stepped) (number cycles : ℕ) (out : List ℕ) →
-    limits ≡ limits′ → given ≡ registersIn cells → stepped image limits given memory ≡ (s, memory′) → cycles ≡ stepCycles image limits given memory →
+-- and so is a record, whose values are bytes
+module _ (r : Record) (registers : List ℕ) (lower upper : ℕ) (own : (registers ≡ registerCells (r .registers)) × (registersIn registers ≡ r .registers))
+    (low : (lower ≡ getD (r .values) 0 0) × (lower < 256)) (high : (upper ≡ getD (r .values) 1 0) × (upper < 256)) where
+  abbrev cells : List ℕ
+  cells =
+      getD registers 0 0 ∷ getD registers 1 0 ∷ getD registers 2 0 ∷ getD registers 3 0 ∷ getD registers 4 0 ∷ getD registers 5 0 ∷
+      r .count ∷ getD (r .addresses) 0 0 ∷ lower ∷ getD (r .addresses) 1 0 ∷ upper ∷ []
+
+  pub read-record : (cells ≡ recordCells r) ×
+      (recordIn cells ≡ record { registers = r .registers; count = r .count; addresses = twoCells (r .addresses); values = twoCells (r .values) })
+  read-record = (
+    rw (low .0, high .0, own .0),
+    rw (mod-eq-of-lt (low .1), mod-eq-of-lt (high .1), low .0, high .0)
+        (ap (λ (regs : Registers). record { registers = regs; count = r .count; addresses = twoCells (r .addresses); values = twoCells (r .values) }) (own .1)),
+  )
+
+pub stepped-by : (image memory memory′ cells : List ℕ) (limits limits′ : Limits) (given : Registers) (s : Stepped) (number cycles : ℕ) (out before : List ℕ)
+    (r : Record) → limits ≡ limits′ → given ≡ registersIn cells → stepped image limits given memory ≡ (s, memory′) →
+    cycles ≡ stepCycles image limits given memory → r ≡ recorded image limits given memory →
     number ≡ stepNumber (s .answer) → (out ≡ registerCells (s .registers)) × (registersIn out ≡ s .registers) →
-    (steppedCells image limits′ cells memory ≡ record { number = number; registers = out; cycles = cycles ∷ []; memory = memory′ })
-    × (registersIn out ≡ stepped image limits′ (registersIn cells) memory .0 .registers)
-unfolding steppedCells
-stepped-by image memory memory′ cells limits limits′ given s number cycles out same-limits same-registers e k n o =
+    (before ≡ recordCells r) ×
+    (recordIn before ≡ record { registers = r .registers; count = r .count; addresses = twoCells (r .addresses); values = twoCells (r .values) }) →
+    (steppedCells image limits′ cells memory ≡ record { number = number; registers = out; cycles = cycles ∷ []; before = before; memory = memory′ })
+    × ((registersIn out ≡ stepped image limits′ (registersIn cells) memory .0 .registers)
+    × (recordIn before ≡ recorded image limits′ (registersIn cells) memory))
+unfolding steppedCells recorded
+stepped-by image memory memory′ cells limits limits′ given s number cycles out before r same-limits same-registers e k is n o b =
     let by-cells = rw (same-limits, same-registers) at e in
-    (rw (by-cells, n, o .0, rw (same-limits, same-registers) at k), rw by-cells (o .1))
+    let told = rw (same-limits, same-registers) at is in
+    (rw (by-cells, n, o .0, b .0, told, rw (same-limits, same-registers) at k), (rw by-cells (o .1), rw told at (b .1)))
+
+pub back-by : (cells memory memory′ out : List ℕ) (given : Record) (b : SteppedBack) → given ≡ recordIn cells → steppedBack given memory ≡ (b, memory′) →
+    (out ≡ registerCells (b .registers)) × (registersIn out ≡ b .registers) →
+    (backCells cells memory ≡ record { number = b .number; registers = out; memory = memory′ }) × (registersIn out ≡ registersIn cells)
+unfolding backCells
+back-by cells memory memory′ out given b is back o =
+    let by-cells = rw is at back in
+    (rw (by-cells, o .0), o .1 ∙ sym (ap (λ (r : SteppedBack × List ℕ). r .0 .registers) by-cells) ∙ registers-back (recordIn cells) memory)
 
 pub ran-by : (budget : ℕ) (image memory memory′ cells : List ℕ) (limits limits′ : Limits) (given : Registers) (r : Ran) (number cycles : ℕ) (out steps : List ℕ) →
     limits ≡ limits′ → given ≡ registersIn cells → ran budget image limits given memory ≡ (r, memory′) →

@@ -9,6 +9,9 @@ use Rattle.rules.specs.declared.Verdict.{Verdict}
 use Rattle.machine.specs.Step.{stepped, stepNumber}
 use Rattle.machine.specs.Run.{ran, runNumber}
 use Rattle.machine.specs.Cycles.{stepCycles, runCycles}
+use Rattle.records.specs.Recording.{recorded}
+use Rattle.records.specs.Back.{steppedBack}
+use Rattle.records.specs.declared.Record.{Record}
 use Rattle.gate.specs.Start.{Result, started}
 use Rattle.execution.specs.declared.Registers.{Registers}
 use Rattle.stm8.specs.declared.Instruction.{Instruction}
@@ -42,6 +45,21 @@ registersIn cells =
 
 abbrev pub registerCells : Registers → List ℕ
 registerCells r = r .a ∷ r .x ∷ r .y ∷ r .cc ∷ r .sp ∷ r .pc ∷ []
+
+-- a record: the registers, then how many bytes, and the address and the value of each; a value by its low 8 bits, count and addresses whole
+abbrev pub recordIn : List ℕ → Record
+recordIn cells =
+    record {
+      registers = registersIn cells;
+      count = getD cells 6 0;
+      addresses = getD cells 7 0 ∷ getD cells 9 0 ∷ [];
+      values = getD cells 8 0 % 256 ∷ getD cells 10 0 % 256 ∷ [];
+    }
+
+abbrev pub recordCells : Record → List ℕ
+recordCells r =
+    registerCells (r .registers) ++
+    r .count ∷ getD (r .addresses) 0 0 ∷ getD (r .values) 0 0 ∷ getD (r .addresses) 1 0 ∷ getD (r .values) 1 0 ∷ []
 
 -- the length of what was decoded, and its text at an address, with 0 in every cell after it
 abbrev pub decodedLength : Decoded → ℕ
@@ -88,6 +106,7 @@ pub record StepCells : Type 0 where
   pub number : ℕ
   pub registers : List ℕ
   pub cycles : List ℕ
+  pub before : List ℕ
   pub memory : List ℕ
 
 unfoldable pub steppedCells : List ℕ → Limits → List ℕ → List ℕ → StepCells
@@ -97,8 +116,19 @@ steppedCells image limits cells memory =
       number = stepNumber (s .0 .answer);
       registers = registerCells (s .0 .registers);
       cycles = stepCycles image limits (registersIn cells) memory ∷ [];
+      before = recordCells (recorded image limits (registersIn cells) memory);
       memory = s .1;
     }
+
+pub record BackCells : Type 0 where
+  pub number : ℕ
+  pub registers : List ℕ
+  pub memory : List ℕ
+
+unfoldable pub backCells : List ℕ → List ℕ → BackCells
+backCells cells memory =
+    let b = steppedBack (recordIn cells) memory in
+    record { number = b .0 .number; registers = registerCells (b .0 .registers); memory = b .1 }
 
 pub record RunCells : Type 0 where
   pub number : ℕ

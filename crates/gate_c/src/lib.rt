@@ -1,17 +1,20 @@
 // The gate for callers in C: numbers, slices and fixed arrays alone. include/gate.h has the declarations.
 ghost use mathlib.Core.Path.{_≡_};
+ghost use Prim.Native.Nat.{_<_};
 ghost use Rattle.rules.specs.Outcome.{valuesOf};
 ghost use Rattle.acceptance.specs.Check.{checked};
 ghost use Rattle.machine.specs.Step.{stepped};
 ghost use Rattle.machine.specs.Run.{ran};
+ghost use Rattle.records.specs.Recording.{twoCells, recorded};
 ghost use Rattle.stm8.specs.Decoding.{decoded, decodingNumber};
 ghost use mathlib.Core.List.{[], _∷_};
-ghost use Rattle.gate_c.specs.Cells.{limitsIn, registersIn, registerCells, reportCells};
+ghost use Rattle.gate_c.specs.Cells.{limitsIn, registersIn, registerCells, reportCells, recordIn, recordCells, backCells};
 ghost use Rattle.gate_c.specs.Cells.{decodedLength, textCells, cycleCells, startedBy, startedCells, steppedCells, ranCells};
 use decoder::decoding_number;
 use disassembly::disassemble;
 use gate::Area;
 use gate::Limits;
+use gate::Record;
 use gate::Registers;
 use gate::Verdict;
 use gate::check;
@@ -19,6 +22,7 @@ use gate::run;
 use gate::run_number;
 use gate::start;
 use gate::step;
+use gate::step_back;
 use gate::step_number;
 use rules::verdict_number;
 use stm8::Decoded;
@@ -81,6 +85,52 @@ fn register_cells(r: Registers) -> [u32; 6]
     ]
 }
 
+// The registers' cells, then count, and each byte's address and value. A value is read by its low 8 bits, count and addresses whole.
+fn record_in(cells: &[u32; 11]) -> Record
+    ensures { λ r. ⌜ r ≡ recordIn (now (cells .entry)) ⌝ }
+{
+    let registers = [cells[0], cells[1], cells[2], cells[3], cells[4], cells[5]];
+    Record {
+        registers: registers_in(&registers),
+        count: cells[6],
+        addresses: [cells[7], cells[9]],
+        values: [(cells[8] % 256) as u8, (cells[10] % 256) as u8],
+    }
+}
+
+// A byte in its cell.
+fn byte_cell(n: u8) -> u32
+    ensures { λ r. ⌜ (r ≡ n) × (r < 256) ⌝ }
+{
+    n as u32
+}
+
+// It is read back as it was.
+fn record_cells(r: Record) -> [u32; 11]
+    ensures { λ v. ⌜ v ≡ recordCells r ⌝ }
+    ensures { λ v. ⌜ recordIn v ≡
+        record { registers = r .registers; count = r .count; addresses = twoCells (r .addresses); values = twoCells (r .values) } ⌝ }
+{
+    let registers = register_cells(r.registers);
+    let addresses = r.addresses;
+    let values = r.values;
+    let lower = byte_cell(values[0]);
+    let upper = byte_cell(values[1]);
+    [
+        registers[0],
+        registers[1],
+        registers[2],
+        registers[3],
+        registers[4],
+        registers[5],
+        r.count,
+        addresses[0],
+        lower,
+        addresses[1],
+        upper,
+    ]
+}
+
 // Checks an image under limits.
 #[no_mangle]
 pub extern "C" fn gate_check(
@@ -136,7 +186,7 @@ pub extern "C" fn gate_start(
     verdict_number(verdict)
 }
 
-// Makes one step.
+// Makes one step, and hands out its record.
 #[no_mangle]
 pub extern "C" fn gate_step(
     image: &[u8],
@@ -144,20 +194,46 @@ pub extern "C" fn gate_step(
     memory: &mut [u8],
     registers: &mut [u32; 6],
     cycles: &mut [u64; 1],
+    before: &mut [u32; 11],
 ) -> u8
     ensures { λ r. ⌜
         steppedCells (now (image .entry)) (limitsIn (now (limits .entry))) (now (registers .entry)) (now (memory .entry)) ≡
-        record { number = r; registers = now (registers .exit); cycles = now (cycles .exit); memory = now (memory .exit) } ⌝ }
+        record {
+          number = r;
+          registers = now (registers .exit);
+          cycles = now (cycles .exit);
+          before = now (before .exit);
+          memory = now (memory .exit);
+        } ⌝ }
     ensures { λ _. ⌜ registersIn (now (registers .exit)) ≡
         stepped (now (image .entry)) (limitsIn (now (limits .entry)))
         (registersIn (now (registers .entry))) (now (memory .entry)) .0 .registers ⌝ }
+    ensures { λ _. ⌜ recordIn (now (before .exit)) ≡
+        recorded (now (image .entry)) (limitsIn (now (limits .entry))) (registersIn (now (registers .entry))) (now (memory .entry)) ⌝ }
 {
-    let timed = step(image, limits_in(limits), registers_in(registers), memory);
-    let stepped = timed.stepped;
+    let s = step(image, limits_in(limits), registers_in(registers), memory);
+    let stepped = s.stepped;
     let answer = stepped.answer;
     *registers = register_cells(stepped.registers);
-    *cycles = [timed.cycles];
+    *cycles = [s.cycles];
+    *before = record_cells(s.record);
     step_number(answer)
+}
+
+// Steps back by a record.
+#[no_mangle]
+pub extern "C" fn gate_step_back(
+    before: &[u32; 11],
+    memory: &mut [u8],
+    registers: &mut [u32; 6],
+) -> u8
+    ensures { λ r. ⌜ backCells (now (before .entry)) (now (memory .entry)) ≡
+        record { number = r; registers = now (registers .exit); memory = now (memory .exit) } ⌝ }
+    ensures { λ _. ⌜ registersIn (now (registers .exit)) ≡ registersIn (now (before .entry)) ⌝ }
+{
+    let back = step_back(record_in(before), memory);
+    *registers = register_cells(back.registers);
+    back.number
 }
 
 // Makes steps until the routine finishes, traps or the budget is used up.

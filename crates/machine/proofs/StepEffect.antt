@@ -55,7 +55,7 @@ goes-to image memory sp next taken Return = refl
 
 -- SP, where 24 is not due
 module _ (limits : Limits) (areas : LimitsRules limits) (sp next : ℕ) (e : Effect) (allowed : effectTrap limits sp next e ≡ 0) where
-  sp-moves : spAfter sp e + e .pushes ≡ sp + e .pops
+  pub sp-moves : spAfter sp e + e .pushes ≡ sp + e .pops
   unfolding effectTrap moveTrap
   sp-moves =
       let low = areas .stackLow in
@@ -68,11 +68,11 @@ module _ (limits : Limits) (areas : LimitsRules limits) (sp next : ℕ) (e : Eff
   next-word call = ltb-true _ _ (unless-zero _ 21 (rw call at (passed _ allowed .1 .1 .0)))
 
 module _ (image : List ℕ) (limits : Limits) (regs : Registers) (memory : List ℕ) (valid : stepRefusal image limits memory ≡ 0) where
-  areas-hold : LimitsRules limits
+  pub areas-hold : LimitsRules limits
   unfolding stepRefusal validated
   areas-hold = valid-limits image limits (layoutOf image) (rw (first-zero _ _ valid .1))
 
-  memory-size : length memory ≡ 32768
+  pub memory-size : length memory ≡ 32768
   unfolding stepRefusal
   memory-size = differ-zero _ _ 16 (first-zero _ _ valid .0)
 
@@ -130,10 +130,12 @@ module _ (image : List ℕ) (limits : Limits) (regs : Registers) (memory : List 
     finished : after .0 .answer ≡ Finished → regs .pc ≡ 0
     is : after ≡ result (after .0 .answer) regs memory
 
-  -- a step that is made
-  record MadeByEffect (after : Result) : Type 0 where
-    answer : after .0 .answer ≡ Made
-    step : MadeStep image regs memory (after .0 .registers) (after .1)
+  -- a step that is made: nothing refused it, and no trap was due
+  pub record MadeByEffect (after : Result) : Type 0 where
+    pub answer : after .0 .answer ≡ Made
+    pub step : MadeStep image regs memory (after .0 .registers) (after .1)
+    pub valid : stepRefusal image limits memory ≡ 0
+    pub allowed : effectTrap limits (regs .sp) (regs .pc + step .size) (effect (step .instruction)) ≡ 0
 
   abbrev Way : Result → Type 0
   Way after = Kept after ⊎ MadeByEffect after
@@ -156,6 +158,8 @@ module _ (image : List ℕ) (limits : Limits) (regs : Registers) (memory : List 
                 found = found;
                 changes = made-changes image limits regs memory valid (regs .pc + n) i allowed;
               };
+          valid = valid;
+          allowed = allowed;
         })
 
     decoded-way : (d : Decoded) → instructionIn image (regs .pc - baseOf image) ≡ d → Way (decodedStep image limits regs memory d)
@@ -188,6 +192,9 @@ module _ (image : List ℕ) (limits : Limits) (regs : Registers) (memory : List 
   pub finished-step : stepped image limits regs memory .0 .answer ≡ Finished → regs .pc ≡ 0
   finished-step h = ⊎-elim (λ k. k .finished h) (λ m. absurd (not-made-finished (sym h ∙ m .answer))) way
 
+  pub made-by : stepped image limits regs memory .0 .answer ≡ Made → MadeByEffect (stepped image limits regs memory)
+  made-by h = ⊎-elim (λ k. absurd (k .answer h)) (λ m. m) way
+
   pub made-step : stepped image limits regs memory .0 .answer ≡ Made →
       MadeStep image regs memory (stepped image limits regs memory .0 .registers) (stepped image limits regs memory .1)
-  made-step h = ⊎-elim (λ k. absurd (k .answer h)) (λ m. m .step) way
+  made-step h = made-by h .step

@@ -6,7 +6,7 @@
 //! All times are elapsed time: the standard library has no clock for processor time, and the system's account of it for another
 //! process ticks in 10 ms.
 
-use gate_host::{slu, twin, Area, Ending, Limits, Refusal, Registers, Run, MARKS_ENOUGH, MEMORY_BYTES};
+use gate_host::{slu, twin, Area, Ending, Limits, Record, Refusal, Registers, Run, Step, MARKS_ENOUGH, MEMORY_BYTES};
 use std::fs;
 use std::hint::black_box;
 use std::io::Write;
@@ -19,7 +19,7 @@ const SHORT_ROUNDS: usize = 201;
 const LONG_ROUNDS: usize = 9;
 const LIMITS: Limits =
     Limits { grant: Area { low: 0x0000, high: 0x00FF }, stack: Area { low: 0x1600, high: 0x17FF }, second: Area::NONE };
-/// The version that every library has, so that one from before 0002 can be measured too. No image here has CALLR.
+/// Either would do, for no image here has CALLR.
 const VERSION: u16 = 1;
 const BASE: u16 = 0x8000;
 
@@ -55,6 +55,7 @@ fn main() {
     let mut tasks = vec![decodes(), decodes_alone()];
     tasks.extend(checks());
     tasks.push(single_steps());
+    tasks.push(steps_and_back());
     tasks.push(runs("run, counting loop", Workload::counter));
     tasks.push(runs("run, mixed loop", Workload::mixed));
     print_figures(&tasks);
@@ -308,27 +309,55 @@ fn started(file: &[u8]) -> (Vec<u8>, Registers) {
     (memory, registers)
 }
 
+/// The steps of a round.
+const STEPS: usize = 4_000;
+
 fn single_steps() -> Task {
-    const COUNT: usize = 4_000;
     let file = Workload::mixed(1).image();
     let (memory, registers) = started(&file);
     let (mut one, mut other) = (memory.clone(), memory);
     let rounds = short_rounds(
-        COUNT,
+        STEPS,
         || {
             let mut registers = registers;
-            for _ in 0..COUNT {
+            for _ in 0..STEPS {
                 _ = black_box(gate_host::step(&file, &LIMITS, &mut one, &mut registers));
             }
         },
         || {
             let mut registers = registers;
-            for _ in 0..COUNT {
+            for _ in 0..STEPS {
                 _ = black_box(twin::step(&file, &LIMITS, &mut other, &mut registers));
             }
         },
     );
     Task { name: "a single step", units: &[NANOSECONDS], rounds }
+}
+
+type Stepper = fn(&[u8], &Limits, &mut [u8], &mut Registers) -> (Result<Step, Refusal>, Record);
+type Returner = fn(&Record, &mut [u8], &mut Registers) -> Result<(), Refusal>;
+
+/// Makes steps and goes back over all of them, so that every round begins with the same memory.
+fn steps_and_back() -> Task {
+    let file = Workload::mixed(1).image();
+    let (memory, begin) = started(&file);
+    let there_and_back = |step: Stepper, step_back: Returner, memory: &mut [u8], records: &mut Vec<Record>| {
+        let mut registers = begin;
+        records.extend((0..STEPS).map(|_| step(&file, &LIMITS, memory, &mut registers).1));
+        for record in records.drain(..).rev() {
+            step_back(&record, memory, &mut registers).expect("the record of a step");
+        }
+        assert_eq!(registers, begin);
+    };
+    let (mut one, mut other) = (memory.clone(), memory.clone());
+    let [mut records, mut twin_records] = [0, 1].map(|_| Vec::with_capacity(STEPS));
+    let rounds = short_rounds(
+        STEPS,
+        || there_and_back(gate_host::step, gate_host::step_back, &mut one, &mut records),
+        || there_and_back(twin::step, twin::step_back, &mut other, &mut twin_records),
+    );
+    assert!(one == memory && other == memory, "every byte is back");
+    Task { name: "a step and a step back", units: &[NANOSECONDS], rounds }
 }
 
 type Runner = fn(&[u8], &Limits, &mut [u8], &mut Registers, u32) -> Result<Run, Refusal>;
@@ -343,7 +372,6 @@ fn runs(name: &'static str, workload: fn(u16) -> Workload) -> Task {
     let mut other = one.clone();
     let slice = |runner: Runner, (memory, registers): &mut (Vec<u8>, Registers)| {
         let run = runner(&file, &LIMITS, memory, registers, SLICE);
-        // A library from before W-206 writes no cycles, and can be measured too.
         assert!(matches!(run, Ok(Run { ending: Ending::Spent, steps: SLICE, .. })));
     };
     let round = |_| {

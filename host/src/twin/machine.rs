@@ -3,7 +3,8 @@
 use super::check::check;
 use super::decode::{Alu, Bit, Half, Index, Instruction, Modify, Place, Source, Target, Undecodable, WordOp, WordSource};
 use super::image::{validate, Image};
-use crate::types::{Accepted, Ending, Limits, Refusal, Refused, Registers, Run, Step, Trap, MEMORY_BYTES};
+use super::record::Witness;
+use crate::types::{Accepted, Ending, Limits, Record, Refusal, Refused, Registers, Run, Step, Trap, MEMORY_BYTES};
 
 type Memory = [u8; MEMORY_BYTES];
 
@@ -31,24 +32,27 @@ pub fn start(
     Ok(accepted)
 }
 
-/// Makes one step.
-pub fn step(file: &[u8], limits: &Limits, memory: &mut [u8], registers: &mut Registers) -> Result<Step, Refusal> {
-    let mut machine = Machine::new(file, limits, memory)?;
-    if registers.pc == 0 {
-        return Ok(Step::Finished);
-    }
-    Ok(match machine.step(*registers) {
-        Ok((after, cycles)) => {
-            *registers = after;
-            Step::Made { cycles }
+/// Makes one step, and its record, whatever the answer.
+pub fn step(file: &[u8], limits: &Limits, memory: &mut [u8], registers: &mut Registers) -> (Result<Step, Refusal>, Record) {
+    let mut record = Record { registers: *registers, ..Record::default() };
+    let answer = Machine::new(file, limits, memory, &mut record).map(|mut machine| {
+        if registers.pc == 0 {
+            return Step::Finished;
         }
-        Err(trap) => Step::Trapped(trap),
-    })
+        match machine.step(*registers) {
+            Ok((after, cycles)) => {
+                *registers = after;
+                Step::Made { cycles }
+            }
+            Err(trap) => Step::Trapped(trap),
+        }
+    });
+    (answer, record)
 }
 
 /// Makes steps until the routine finishes, traps or `budget` steps are made.
 pub fn run(file: &[u8], limits: &Limits, memory: &mut [u8], registers: &mut Registers, budget: u32) -> Result<Run, Refusal> {
-    let mut machine = Machine::new(file, limits, memory)?;
+    let mut machine = Machine::new(file, limits, memory, ())?;
     let (mut steps, mut sum) = (0, 0);
     let ending = loop {
         if registers.pc == 0 {
@@ -69,23 +73,24 @@ pub fn run(file: &[u8], limits: &Limits, memory: &mut [u8], registers: &mut Regi
     Ok(Run { ending, steps, cycles: sum })
 }
 
-fn lent(memory: &mut [u8]) -> Result<&mut Memory, Refusal> {
+pub fn lent(memory: &mut [u8]) -> Result<&mut Memory, Refusal> {
     memory.try_into().map_err(|_| Refusal::Memory)
 }
 
-/// What stays the same from step to step, and the memory.
-struct Machine<'a> {
+/// What stays the same from step to step, the memory, and who is told of its bytes that are overwritten.
+struct Machine<'a, W> {
     image: Image<'a>,
     limits: &'a Limits,
     memory: &'a mut Memory,
+    witness: W,
 }
 
-impl<'a> Machine<'a> {
+impl<'a, W: Witness> Machine<'a, W> {
     /// Tests 17 and 1 to 4.
-    fn new(file: &'a [u8], limits: &'a Limits, memory: &'a mut [u8]) -> Result<Machine<'a>, Refusal> {
+    fn new(file: &'a [u8], limits: &'a Limits, memory: &'a mut [u8], witness: W) -> Result<Machine<'a, W>, Refusal> {
         let memory = lent(memory)?;
         validate(limits)?;
-        Ok(Machine { image: Image::parse(file)?, limits, memory })
+        Ok(Machine { image: Image::parse(file)?, limits, memory, witness })
     }
 
     /// One step from a PC that is not 0: the registers after it, and its cycles. It writes memory only when nothing more can trap.
@@ -120,7 +125,7 @@ impl<'a> Machine<'a> {
             }
             StoreA(place) => {
                 let to = self.place(place, 1, r)?;
-                self.memory[to] = r.a;
+                self.store(to, [r.a]);
                 r.sign_and_zero(r.a);
             }
             HalfFromA(index, half) => {
@@ -153,7 +158,7 @@ impl<'a> Machine<'a> {
             StoreWord(place, index) => {
                 let to = self.place(place, 2, r)?;
                 let word = r.index(index);
-                self.memory[to..to + 2].copy_from_slice(&word.to_be_bytes());
+                self.store(to, word.to_be_bytes());
                 r.word_sign_and_zero(word);
             }
             CopyIndex(Index::X) => r.x = r.y,
@@ -190,13 +195,14 @@ impl<'a> Machine<'a> {
                 let to = self.direct(address, 1)?;
                 let mask = 1 << bit;
                 let byte = self.memory[to];
-                self.memory[to] = match operation {
+                let result = match operation {
                     self::Bit::Set => byte | mask,
                     self::Bit::Reset => byte & !mask,
                     self::Bit::Complement => byte ^ mask,
                     self::Bit::CopyCarry if r.is(C) => byte | mask,
                     self::Bit::CopyCarry => byte & !mask,
                 };
+                self.store(to, [result]);
             }
             BitJump { jump_if, address, bit, offset } => {
                 let tested = self.read(address.into()) >> bit & 1 == 1;
@@ -205,7 +211,7 @@ impl<'a> Machine<'a> {
             }
             MoveImmediate { to, value } => {
                 let to = self.direct(to, 1)?;
-                self.memory[to] = value;
+                self.store(to, [value]);
             }
             MoveShort { to, from } => self.copy(to.into(), from.into())?,
             MoveLong { to, from } => self.copy(to, from)?,
@@ -216,7 +222,7 @@ impl<'a> Machine<'a> {
             PopLong(address) => {
                 let byte = self.pop(r)?;
                 let to = self.direct(address, 1)?;
-                self.memory[to] = byte;
+                self.store(to, [byte]);
             }
             SubSp(count) => r.sp = self.lowered(r.sp, count.into())?,
             AddSp(count) => r.sp = self.raised(r.sp, count.into())?,
@@ -271,6 +277,14 @@ impl<'a> Machine<'a> {
 
     // Storing: where, or trap 25. The grants and the stack lie in the memory.
 
+    /// The one place where an instruction writes memory.
+    #[inline]
+    fn store<const N: usize>(&mut self, to: usize, bytes: [u8; N]) {
+        let cells = &mut self.memory[to..to + N];
+        self.witness.overwritten(to, cells);
+        cells.copy_from_slice(&bytes);
+    }
+
     #[inline]
     fn direct(&self, address: u16, bytes: u32) -> Result<usize, Trap> {
         self.limits.grants(address, bytes).then_some(address.into()).ok_or(Trap::Store)
@@ -291,7 +305,7 @@ impl<'a> Machine<'a> {
 
     fn copy(&mut self, to: u16, from: u16) -> Result<(), Trap> {
         let to = self.direct(to, 1)?;
-        self.memory[to] = self.read(from.into());
+        self.store(to, [self.read(from.into())]);
         Ok(())
     }
 
@@ -302,7 +316,8 @@ impl<'a> Machine<'a> {
             return Ok(());
         }
         let to = self.direct(address, 1)?;
-        self.memory[to] = r.modify(operation, self.memory[to]);
+        let result = r.modify(operation, self.memory[to]);
+        self.store(to, [result]);
         Ok(())
     }
 
@@ -318,7 +333,7 @@ impl<'a> Machine<'a> {
 
     fn push(&mut self, byte: u8, r: &mut Registers) -> Result<(), Trap> {
         let lower = self.lowered(r.sp, 1)?;
-        self.memory[usize::from(r.sp)] = byte;
+        self.store(r.sp.into(), [byte]);
         r.sp = lower;
         Ok(())
     }
@@ -326,8 +341,7 @@ impl<'a> Machine<'a> {
     /// The low byte is pushed first, so the high byte lies lower.
     fn push_word(&mut self, word: u16, r: &mut Registers) -> Result<(), Trap> {
         let lower = self.lowered(r.sp, 2)?;
-        let high = usize::from(r.sp) - 1;
-        self.memory[high..high + 2].copy_from_slice(&word.to_be_bytes());
+        self.store(usize::from(r.sp) - 1, word.to_be_bytes());
         r.sp = lower;
         Ok(())
     }
@@ -421,7 +435,8 @@ impl Registers {
         }
     }
 
-    #[inline]
+    /// Always in line: a step and a run are compiled apart, and two callers would else make it a call, and a run slower.
+    #[inline(always)]
     fn accumulate(&mut self, operation: Alu, value: u8) {
         let carry = self.is(C);
         match operation {

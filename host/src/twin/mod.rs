@@ -9,10 +9,12 @@ mod cycles;
 mod decode;
 mod image;
 mod machine;
+mod record;
 mod text;
 
 pub use check::check;
 pub use decode::{decode, Alu, Bit, Half, Index, Instruction, Modify, Place, Source, Target, Undecodable, WordOp, WordSource};
 pub use image::{validate, Image};
 pub use machine::{run, start, step};
+pub use record::step_back;
 pub use text::text;

@@ -1,24 +1,29 @@
 //! One call to the library and to the twin, every cell compared, and the tally of answers.
 
+use crate::back::Undo;
 use crate::cycles::{self, Timing};
 use crate::limits::Second;
+use crate::memories::{Memories, BLANK};
 use crate::met::Met;
 use crate::program::{Case, Known};
-use crate::random::Random;
+use crate::records::Records;
 use crate::shape::Shape;
 use crate::versions::Versions;
-use gate_host::cells::{self, RegisterCells, ReportCells};
+use gate_host::cells::{self, RecordCells, RegisterCells, ReportCells};
 use gate_host::twin::{self, Instruction};
-use gate_host::{Accepted, Ending, Limits, Refusal, Refused, Registers, Run, Step, Trap, MEMORY_BYTES, TEXT_BYTES};
+use gate_host::{Accepted, Ending, Limits, Refusal, Refused, Registers, Run, Step, Trap, TEXT_BYTES};
 use std::fmt::Debug;
 
 /// What differed, in words, or nothing.
 pub type Compared<T> = Result<T, String>;
 
-/// Contents of a lent cell before a call, to see whether it was written.
-const BLANK: u8 = 0xA5;
-/// The same for a cell of cycles, all eight bytes of which are to be written.
+/// `BLANK` in each byte of a cell of cycles, for all of them are to be written.
 const BLANK_CYCLES: [u64; 1] = [u64::from_ne_bytes([BLANK; 8])];
+/// The same for the cells of a record.
+const BLANK_RECORD: RecordCells = {
+    let blank = u32::from_ne_bytes([BLANK; 4]);
+    RecordCells { registers: [blank; 6], count: blank, bytes: [[blank; 2]; 2] }
+};
 
 /// How often each function gave each answer.
 #[derive(Default)]
@@ -26,6 +31,7 @@ pub struct Tally {
     pub check: Answers,
     pub start: Answers,
     pub step: Answers,
+    pub step_back: Answers,
     pub run: Answers,
     pub decode: Answers,
     /// The steps that runs made.
@@ -37,6 +43,7 @@ pub struct Tally {
     pub second: Met<Second>,
     pub versions: Met<Versions>,
     pub timing: Met<Timing>,
+    pub records: Met<Records>,
     /// Trap 22: PC not in the code, bytes that run out, a call whose next address is 10000.
     pub trap_22: [u64; 3],
 }
@@ -76,12 +83,12 @@ impl Answers {
         self.0[usize::from(number)]
     }
 
-    fn add(&mut self, number: u8) {
+    pub fn add(&mut self, number: u8) {
         self.0[usize::from(number)] += 1;
     }
 }
 
-fn same<T: PartialEq + Debug>(what: &str, library: &T, twin: &T) -> Compared<()> {
+pub fn same<T: PartialEq + Debug>(what: &str, library: &T, twin: &T) -> Compared<()> {
     if library == twin {
         Ok(())
     } else {
@@ -90,7 +97,7 @@ fn same<T: PartialEq + Debug>(what: &str, library: &T, twin: &T) -> Compared<()>
 }
 
 /// As `same`, for long slices: only the first cell that differs is named.
-fn same_cells<T: PartialEq + Debug>(what: &str, library: &[T], twin: &[T]) -> Compared<()> {
+pub fn same_cells<T: PartialEq + Debug>(what: &str, library: &[T], twin: &[T]) -> Compared<()> {
     if library == twin {
         return Ok(());
     }
@@ -98,38 +105,19 @@ fn same_cells<T: PartialEq + Debug>(what: &str, library: &[T], twin: &[T]) -> Co
     same(&format!("{what} {at:04X}"), &library[at], &twin[at])
 }
 
+/// As `same`, for what both answered, or one of them, and what it must be by another call.
+pub fn as_expected<T: PartialEq + Debug>(what: &str, expected: &T, answered: &T) -> Compared<()> {
+    if expected == answered {
+        Ok(())
+    } else {
+        Err(format!("{what}\n  expected {expected:?}\n  answered {answered:?}"))
+    }
+}
+
 fn report_cells(verdict: Result<Accepted, Refused>) -> (u8, ReportCells) {
     match verdict {
         Ok(Accepted { need, count }) => (cells::OK, [0, need, count]),
         Err(Refused { refusal, offset }) => (refusal.number(), [offset, 0, 0]),
-    }
-}
-
-/// The memory as the library and as the twin have it. They are equal between calls.
-#[derive(Clone, PartialEq)]
-pub struct Memories {
-    library: Vec<u8>,
-    twin: Vec<u8>,
-}
-
-impl Memories {
-    /// More than is ever rightly lent: its size and the right one are alike in 16 bits.
-    pub const CELLS: usize = MEMORY_BYTES + 0x1_0000;
-
-    pub fn new(random: &mut Random) -> Memories {
-        let mut memory = vec![BLANK; Memories::CELLS];
-        random.fill(&mut memory[..MEMORY_BYTES]);
-        Memories { library: memory.clone(), twin: memory }
-    }
-
-    /// All that is rightly lent, and a little more, is the same.
-    fn same(&self) -> Compared<()> {
-        let most = MEMORY_BYTES + 8;
-        same_cells("memory at", &self.library[..most], &self.twin[..most])
-    }
-
-    pub fn same_everywhere(&self) -> Compared<()> {
-        same_cells("memory at", &self.library, &self.twin)
     }
 }
 
@@ -185,6 +173,7 @@ pub fn start(
     given: RegisterCells,
     tally: &mut Tally,
 ) -> Compared<(u8, RegisterCells)> {
+    memories.as_told()?;
     let (mut library, mut other) = (marks.to_vec(), marks.to_vec());
     let (mut registers, mut twin_registers) = (given, Registers::from_cells(&given));
     let mut report = [u16::from(BLANK); 3];
@@ -195,6 +184,7 @@ pub fn start(
     same("start: registers", &registers, &twin_registers.to_cells())?;
     same_cells("start: mark", &library, &other)?;
     memories.same()?;
+    memories.follow_all();
     tally.start.add(number);
     Ok((number, registers))
 }
@@ -205,9 +195,10 @@ pub struct Stepped {
     pub number: u8,
     pub registers: RegisterCells,
     pub cycles: u64,
+    pub record: RecordCells,
 }
 
-/// Makes one step, and gives what both answered.
+/// Makes one step, steps back over it and makes it once more, and gives what both answered.
 pub fn step(
     image: &[u8],
     limits: &Limits,
@@ -216,35 +207,57 @@ pub fn step(
     given: RegisterCells,
     tally: &mut Tally,
 ) -> Compared<Stepped> {
-    let (mut registers, mut twin_registers) = (given, Registers::from_cells(&given));
-    let mut cycles = BLANK_CYCLES;
-    let number = cells::step(image, limits, &mut memories.library[..lent], &mut registers, &mut cycles);
-    let answer = twin::step(image, limits, &mut memories.twin[..lent], &mut twin_registers);
-    let library = Stepped { number, registers, cycles: cycles[0] };
-    same("step", &library, &step_cells(answer, twin_registers.to_cells()))?;
+    let (step, answer) = step_once(image, limits, memories, lent, given)?;
     memories.same()?;
     let bytes = bytes_at(image, given);
-    tally.step.add(number);
-    tally.timing.note(Timing::of_step(&library, bytes.and_then(instruction)));
+    tally.step.add(step.number);
+    tally.timing.note(Timing::of_step(&step, bytes.and_then(instruction)));
+    tally.records.note(Records::of_step(&step, memories));
     if let Ok(answer) = answer {
         note_step(answer, bytes, limits, tally);
         tally.versions.note(bytes.and_then(|bytes| Versions::of_step(image, bytes, answer)));
     }
-    if let (cells::OK, Some(bytes)) = (number, bytes) {
-        cycles::as_pc_tells(&library, bytes, given[5])?;
+    if let (cells::OK, Some(bytes)) = (step.number, bytes) {
+        cycles::as_pc_tells(&step, bytes, given[5])?;
     }
-    Ok(library)
+    Undo { given, step }.undo(memories, lent, tally)?;
+    memories.has_back(&step.record)?;
+    // To compare all of the memory each time would take long; a byte that is wrong elsewhere stays so until it is compared.
+    if tally.step.times(step.number) % 8 == 1 {
+        memories.as_told()?;
+    }
+    let (again, _) = step_once(image, limits, memories, lent, given)?;
+    as_expected("step, once more after stepping back", &step, &again)?;
+    memories.follow(&step.record);
+    Ok(step)
+}
+
+/// Makes one step, and gives what both answered, as cells and as the twin has it. The memory is not compared.
+fn step_once(
+    image: &[u8],
+    limits: &Limits,
+    memories: &mut Memories,
+    lent: usize,
+    given: RegisterCells,
+) -> Compared<(Stepped, Result<Step, Refusal>)> {
+    let (mut registers, mut twin_registers) = (given, Registers::from_cells(&given));
+    let (mut cycles, mut record) = (BLANK_CYCLES, BLANK_RECORD);
+    let number = cells::step(image, limits, &mut memories.library[..lent], &mut registers, &mut cycles, &mut record);
+    let (answer, twin_record) = twin::step(image, limits, &mut memories.twin[..lent], &mut twin_registers);
+    let library = Stepped { number, registers, cycles: cycles[0], record };
+    same("step", &library, &step_cells(answer, twin_registers.to_cells(), twin_record.to_cells()))?;
+    Ok((library, answer))
 }
 
 /// An answer of the twin.
-fn step_cells(answer: Result<Step, Refusal>, registers: RegisterCells) -> Stepped {
+fn step_cells(answer: Result<Step, Refusal>, registers: RegisterCells, record: RecordCells) -> Stepped {
     let (number, cycles) = match answer {
         Ok(Step::Made { cycles }) => (cells::OK, cycles),
         Ok(Step::Finished) => (cells::FINISHED, 0),
         Ok(Step::Trapped(trap)) => (trap.number(), 0),
         Err(refusal) => (refusal.number(), 0),
     };
-    Stepped { number, registers, cycles }
+    Stepped { number, registers, cycles, record }
 }
 
 /// Notes what was met by a step at these code bytes.
@@ -315,6 +328,7 @@ pub fn run(
     budget: u32,
     tally: &mut Tally,
 ) -> Compared<Ran> {
+    memories.as_told()?;
     let (mut registers, mut twin_registers) = (given, Registers::from_cells(&given));
     let (mut steps, mut cycles) = ([u32::from(BLANK)], BLANK_CYCLES);
     let number = cells::run(image, limits, &mut memories.library[..lent], &mut registers, budget, &mut steps, &mut cycles);
@@ -322,6 +336,7 @@ pub fn run(
     let library = Ran { number, steps: steps[0], cycles: cycles[0], registers };
     same(&format!("run of {budget}"), &library, &run_cells(answer, twin_registers.to_cells()))?;
     memories.same()?;
+    memories.follow_all();
     tally.run.add(number);
     tally.run_steps += u64::from(steps[0]);
     tally.timing.note(Timing::of_run(&library));

@@ -1,9 +1,10 @@
 //! One image in version 0001 and in 0002, from the same marks, registers and memory: only what comes to CALLR may differ.
 
-use crate::compare::{self, Compared, Memories, Ran, Stepped, Tally};
+use crate::compare::{self, Compared, Ran, Stepped, Tally};
+use crate::memories::Memories;
 use crate::program::Case;
 use crate::versions::{self, Versions, CALLR};
-use gate_host::cells::{RegisterCells, OK, SPENT};
+use gate_host::cells::{RecordCells, RegisterCells, OK, SPENT};
 use gate_host::{twin, Registers, MEMORY_BYTES};
 use std::fmt::Debug;
 
@@ -68,7 +69,9 @@ impl Pair {
         // A call is made, or its operand or the address after it runs out, or SP would leave its range.
         let callr = matches!(first.number, OK | 22 | 24) && is_at_callr(&one.image, given);
         tally.versions.note([if callr { Versions::StepsApart } else { Versions::StepsAlike }]);
-        let trapped = Stepped { number: 23, registers: Registers::from_cells(&given).to_cells(), cycles: 0 };
+        let registers = Registers::from_cells(&given).to_cells();
+        let record = RecordCells { registers, ..RecordCells::default() };
+        let trapped = Stepped { number: 23, registers, cycles: 0, record };
         alike("step", if callr { &trapped } else { &first }, &second)?;
         if callr {
             other_memory.clone_from(memory);
@@ -92,7 +95,7 @@ impl Pair {
     }
 
     fn same_memory(&self, what: &str) -> Compared<()> {
-        if self.memories[0] == self.memories[1] {
+        if self.memories[0].is_same_as(&self.memories[1]) {
             Ok(())
         } else {
             Err(format!("{what}: the memories of versions 0001 and 0002 differ"))

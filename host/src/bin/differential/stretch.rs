@@ -1,8 +1,9 @@
 //! The steps of a run, made once more: one by one, and by two runs. Registers, memory and the sum of the cycles come out alike.
 //! These calls go into no tally, since their steps were counted as the run's.
 
-use crate::compare::{self, Compared, Memories, Ran, Tally};
+use crate::compare::{self, Compared, Ran, Tally};
 use crate::cycles::Timing;
+use crate::memories::Memories;
 use crate::program::Case;
 use gate_host::cells::{RegisterCells, OK, SPENT};
 
@@ -54,7 +55,7 @@ impl Stretch<'_> {
         if *sum != self.whole {
             return Err(format!("run, {how}\n  at once {:?}\n  so      {sum:?}", self.whole));
         }
-        if memories != self.after {
+        if !memories.is_same_as(self.after) {
             return Err(format!("run, {how}: the memory is another"));
         }
         Ok(())

@@ -1,8 +1,10 @@
 //! One case from end to end: what it is made of, and the calls that are compared.
 
-use crate::compare::{self, Compared, Memories, Stepped, Tally};
+use crate::back::{self, Undo};
+use crate::compare::{self, Compared, Stepped, Tally};
 use crate::generator::{Generator, Template};
 use crate::limits::Second;
+use crate::memories::Memories;
 use crate::pair::Pair;
 use crate::program::Case;
 use crate::random::Random;
@@ -62,7 +64,9 @@ impl<'a> Trial<'a> {
             }
             self.case = sound.clone();
         }
+        self.by_hand()?;
         self.memories.same_everywhere()?;
+        self.memories.as_told()?;
         self.decodes()
     }
 
@@ -103,13 +107,8 @@ impl<'a> Trial<'a> {
             return Ok(());
         }
         for _ in 0..self.make.random.between(1, 3) {
-            for _ in 0..self.make.random.between(1, 40) {
-                let step = self.step(MEMORY_BYTES, registers)?;
-                registers = step.registers;
-                if step.number != OK {
-                    break;
-                }
-            }
+            let most = self.make.random.between(1, 40);
+            registers = self.steps(MEMORY_BYTES, registers, most)?;
             registers = self.run(MEMORY_BYTES, registers)?;
         }
         Ok(())
@@ -118,18 +117,44 @@ impl<'a> Trial<'a> {
     /// Single steps from any registers, and a run.
     fn anywhere(&mut self, steps: usize) -> Compared<()> {
         for _ in 0..steps {
-            let lent = self.lent();
-            let mut registers = self.registers();
-            for _ in 0..4 {
-                let step = self.step(lent, registers)?;
-                registers = step.registers;
-                if step.number != OK {
-                    break;
-                }
-            }
+            let (lent, registers) = (self.lent(), self.registers());
+            self.steps(lent, registers, 4)?;
         }
         let (lent, registers) = (self.lent(), self.registers());
         self.run(lent, registers)?;
+        Ok(())
+    }
+
+    /// Up to so many steps, each from where the last one came to, until one is not made. Now and then all of them are undone. Gives
+    /// the registers then.
+    fn steps(&mut self, lent: usize, given: RegisterCells, most: usize) -> Compared<RegisterCells> {
+        let before = (lent == MEMORY_BYTES && self.make.random.one_in(8)).then(|| self.memories.kept());
+        let mut registers = given;
+        let mut steps = Vec::new();
+        for _ in 0..most {
+            let step = self.step(lent, registers)?;
+            steps.push(Undo { given: registers, step });
+            registers = step.registers;
+            if step.number != OK {
+                break;
+            }
+        }
+        let Some(before) = before else { return Ok(registers) };
+        self.call = format!("{} steps undone, from registers {given:04X?}", steps.len());
+        back::list(&steps, before, &mut self.memories, self.tally)?;
+        Ok(given)
+    }
+
+    /// Records made by hand, some of them from that of a step.
+    fn by_hand(&mut self) -> Compared<()> {
+        let registers = self.registers();
+        let of_step = self.step(MEMORY_BYTES, registers)?.record;
+        for _ in 0..8 {
+            let record = self.make.record(of_step);
+            let lent = if self.make.random.one_in(8) { self.wrong_size() } else { MEMORY_BYTES };
+            self.call = format!("step back with {lent} bytes of memory by {record:04X?}");
+            back::by_hand(&record, &mut self.memories, lent, self.tally)?;
+        }
         Ok(())
     }
 
@@ -200,10 +225,14 @@ impl<'a> Trial<'a> {
     /// The size of the lent memory: now and then another than the right one, which 16 bits may not tell from it.
     fn lent(&mut self) -> usize {
         if self.make.random.one_in(100) {
-            self.make.random.pick(&[0, 100, MEMORY_BYTES - 1, MEMORY_BYTES + 1, Memories::CELLS])
+            self.wrong_size()
         } else {
             MEMORY_BYTES
         }
+    }
+
+    fn wrong_size(&mut self) -> usize {
+        self.make.random.pick(&[0, 100, MEMORY_BYTES - 1, MEMORY_BYTES + 1, Memories::CELLS])
     }
 
     /// Any registers, often with SP and PC where something happens; the cells' unused bits may be set.

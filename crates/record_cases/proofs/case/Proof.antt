@@ -1,0 +1,34 @@
+-- `record_cases::case` is safe and ends.
+use mathlib.Core.Path.{sym}
+use lib.Seq.{length-take-le}
+use borrow.Author.Needs.{needs}
+use Rattle.record_cases.proofs.case.Statement.{statement}
+use Rattle.record_cases.proofs.case.Tie as tie
+
+slice-aggregate-case-line : tie.Need-slice-aggregate-case-line
+slice-aggregate-case-line c = sym (length-take-le _ _ (c .before .before .before .before .before .parse .ensures .0))
+
+slice-aggregate-case-line-2 : tie.Need-slice-aggregate-case-line-2
+slice-aggregate-case-line-2 c = sym (length-take-le _ _ (c .before .before .if1 .taken))
+
+slice-aggregate-case-line-3 : tie.Need-slice-aggregate-case-line-3
+slice-aggregate-case-line-3 c = sym (length-take-le _ _ (c .before .before .before .if1 .taken))
+
+pub case-spec : {M : Type 1} → statement M
+case-spec =
+    tie.close
+    (tie.spec
+    (λ c. search needs)
+    (λ c κs. search needs)
+    (λ c. search needs)
+    (λ c κs. search needs)
+    (λ c. search needs)
+    (λ c. search needs)
+    slice-aggregate-case-line
+    (λ c. search needs)
+    slice-aggregate-case-line-2
+    (λ c. search needs)
+    slice-aggregate-case-line-3
+    (λ c κs. search needs)
+    (λ c. search needs)
+    (λ c. search needs))

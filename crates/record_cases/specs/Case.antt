@@ -1,0 +1,20 @@
+-- A record made by hand as bytes: registers at 3, the count at 14, and twice an address and a value.
+use Prim.Native.Nat.{ℕ, _+_, _*_}
+use mathlib.Core.List.{List, [], _∷_}
+use lib.ListN.{getD, take, drop}
+use Rattle.numbers.specs.Words.{wordAt}
+use Rattle.records.specs.declared.Record.{Record}
+use Rattle.vectors.specs.Bytes.{registersOf}
+
+-- a number of 32 bits, high byte first
+abbrev pub longAt : List ℕ → ℕ → ℕ
+longAt bytes at = wordAt bytes at * 65536 + wordAt bytes (at + 2)
+
+abbrev pub recordIn : List ℕ → Record
+recordIn bytes =
+    record {
+      registers = registersOf (take 11 (drop 3 bytes));
+      count = longAt bytes 14;
+      addresses = longAt bytes 18 ∷ longAt bytes 23 ∷ [];
+      values = getD bytes 22 0 ∷ getD bytes 27 0 ∷ [];
+    }

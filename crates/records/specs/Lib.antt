@@ -1,0 +1,4 @@
+pub mod Recording
+pub mod Back
+pub mod Restored
+pub mod Traces
