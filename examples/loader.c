@@ -1,17 +1,16 @@
 /* A loader in C: checks an image, lists it, starts it and runs it, and prints cycles, registers and the bytes that it stored. Then
  * it steps through one, and back.
  *
- *     rt staticlib gate_c
+ *     make
  *     gcc -Iinclude examples/loader.c target/staticlib/libgate_c.a -o loader
  *
- * examples/loader.sh does both and compares what is printed with examples/loader.expected. */
+ * or, where the library is installed, gcc examples/loader.c $(pkg-config --cflags --libs gate) -o loader.
+ * examples/loader.sh builds and runs it and compares what is printed with examples/loader.expected. */
 #include <inttypes.h>
 #include <stdio.h>
 #include <string.h>
 
 #include "gate.h"
-
-#define HEADER_BYTES 8u /* SLU, version, base and routine count; a length of two bytes for each routine follows */
 
 enum { BUDGET = 100000 };
 
@@ -22,7 +21,7 @@ static const struct gate_limits limits = {
     .second = { 0x4000, 0x401F },
 };
 
-/* Document 01's example: one routine that stores 5 at 0010. */
+/* One routine, which stores 5 at 0010. */
 static const uint8_t store_five[] = {
     0x53, 0x4C, 0x55, 0x00, 0x01, 0x80, 0x00, 0x01, 0x00, 0x05, 0xA6, 0x05, 0xB7, 0x10, 0x81,
 };
@@ -57,21 +56,34 @@ static void print_cycles(const uint8_t cycles[GATE_CYCLES])
         printf(" %u/%u", (unsigned)cycles[GATE_UNTAKEN], (unsigned)cycles[GATE_TAKEN]);
 }
 
-/* One line for each start of an accepted image: address, depth, cycles and text. */
-static void list(const uint8_t *image, size_t image_length)
+/* One line for each start of a routine of an accepted image: address, depth, cycles and text. */
+static void list_routine(const uint8_t *code, unsigned base, unsigned begin, unsigned end)
 {
-    const size_t code = HEADER_BYTES + 2u * image[7];
-    const uint16_t base = (uint16_t)(image[5] << 8 | image[6]);
-    for (size_t at = code; at < image_length; at++) {
-        const uint16_t mark = marks[at - code];
-        const uint16_t address = (uint16_t)(base + (at - code));
+    for (unsigned offset = begin; offset < end; offset++) {
+        const uint16_t address = (uint16_t)(base + offset);
         uint8_t text[GATE_TEXT_BYTES], cycles[GATE_CYCLES];
         size_t length[1];
-        if (mark == 0 || gate_decode(image + at, image_length - at, address, text, length, cycles) != GATE_OK)
+        if (marks[offset] == 0 || gate_decode(code + offset, end - offset, address, text, length, cycles) != GATE_OK)
             continue;
-        printf("  %04X %u", (unsigned)address, (unsigned)mark - 1);
+        printf("  %04X %u", (unsigned)address, marks[offset] - 1u);
         print_cycles(cycles);
         printf(" %s\n", (const char *)text);
+    }
+}
+
+/* The routines of an accepted image, each with its number; the last is main. */
+static void list(const uint8_t *image, size_t image_length)
+{
+    struct gate_layout layout;
+    gate_layout(image, image_length, &layout);
+    for (unsigned number = 0; number < layout.routines; number++) {
+        const unsigned next = number + 1;
+        if (next < layout.routines)
+            printf("  routine %u\n", number);
+        else
+            printf("  main\n");
+        list_routine(image + layout.code, layout.base, layout.begins[number],
+                     next < layout.routines ? layout.begins[next] : layout.size);
     }
 }
 
@@ -101,17 +113,13 @@ static void load(const char *name, const uint8_t *image, size_t image_length)
     const uint8_t verdict = gate_start(image, image_length, &limits, marks, GATE_MARKS_ENOUGH,
                                        memory, sizeof memory, registers, report);
     if (verdict != GATE_OK) {
-        printf("%s: refused %u %u\n", name, (unsigned)verdict, (unsigned)report[GATE_OFFSET]);
+        printf("%s: refused %u %u, %s\n", name, (unsigned)verdict, (unsigned)report[GATE_OFFSET], gate_number_text(verdict));
         return;
     }
     printf("%s: accepted %u %u\n", name, (unsigned)report[GATE_NEED], (unsigned)report[GATE_COUNT]);
     list(image, image_length);
     const uint8_t ending = gate_run(image, image_length, &limits, memory, sizeof memory, registers, BUDGET, steps, cycles);
-    if (ending == GATE_FINISHED)
-        printf("  finished");
-    else
-        printf("  ended with %u", (unsigned)ending);
-    printf(" after %" PRIu32 " steps and %" PRIu64 " cycles\n", steps[0], cycles[0]);
+    printf("  %s after %" PRIu32 " steps and %" PRIu64 " cycles\n", gate_number_text(ending), steps[0], cycles[0]);
     print_state(registers);
 }
 
@@ -147,8 +155,18 @@ static void step_and_back(void)
     print_state(registers);
 }
 
+/* Whether header and archive are of one version. */
+static int is_of_this_header(uint32_t version)
+{
+    return version == GATE_LIBRARY_MAJOR * 65536u + GATE_LIBRARY_MINOR * 256u + GATE_LIBRARY_PATCH;
+}
+
 int main(void)
 {
+    if (!is_of_this_header(gate_library_version())) {
+        fprintf(stderr, "the library is not of version " GATE_LIBRARY_VERSION ", as gate.h is\n");
+        return 1;
+    }
     load("store five", store_five, sizeof store_five);
     load("sum to a hundred", sum_to_hundred, sizeof sum_to_hundred);
     load("trim", trim, sizeof trim);

@@ -1,13 +1,18 @@
 #!/bin/sh
-# Builds examples/loader.c against the static library, runs it, and compares what it prints with examples/loader.expected.
-# With GATE_LIB_DIR set to an absolute path, the libgate_c.a of that folder is linked; else that of `rt staticlib gate_c`.
+# Compiles include/gate.h as C and C++, builds examples/loader.c against the static library (host/build), runs it, and compares what it prints
+# with examples/loader.expected.
 set -eu
-top=$(cd "$(dirname "$0")/.." && pwd)
-cd "$top"
-[ -n "${GATE_LIB_DIR:-}" ] || rt staticlib gate_c
-library=${GATE_LIB_DIR:-target/staticlib}/libgate_c.a
+cd "$(dirname "$0")/.."
 folder=$(mktemp -d)
 trap 'rm -rf "$folder"' EXIT
-gcc -std=c99 -O2 -Wall -Wextra -Wpedantic -Werror -Iinclude examples/loader.c "$library" -o "$folder/loader"
+strict='-Wall -Wextra -Wpedantic -Werror -Iinclude'
+twice='#include "gate.h"\n#include "gate.h"\n'
+for standard in c99 c11 c17; do
+    printf "$twice" | gcc -std=$standard $strict -fsyntax-only -x c -
+done
+for standard in c++98 c++11 c++20; do
+    printf "$twice" | g++ -std=$standard $strict -fsyntax-only -x c++ -
+done
+host/build examples/loader.c "$folder/loader"
 "$folder/loader" | tee "$folder/printed"
 cmp "$folder/printed" examples/loader.expected

@@ -1,13 +1,13 @@
-/* The gate loader for C: check an image, start it, step it, step back, run it, and decode an instruction.
+/* The gate loader for C: check an image, start it, step it, step back, run it, read its layout, and decode an instruction.
  *
  * Every function is total: whatever the bytes, numbers and lengths, it returns, and what it leaves in each cell is said below.
  * What C must see to, as for any pointer: each pointer is not null (where a length is 0 any address that is not null will do),
  * aligned for its type, and leads to as many cells as its length, its array type or its struct says; and no cell that a function
  * writes lies in another of its arguments.
  *
- * Numbers are those of document 01 and of the change requests to it; addresses are 16 bits, PC has 24. The cell of PC has 32 bits
- * and is read whole: a value above FFFFFF is in no code, so a step that is not refused traps 22 there (21 where SP is out of its
- * range too) and leaves the cell as it was. No step that is made leaves PC above 01007F.
+ * Addresses are 16 bits, PC has 24. The cell of PC has 32 bits and is read whole: a value above FFFFFF is in no code, so a step that
+ * is not refused traps 22 there (21 where SP is out of its range too) and leaves the cell as it was. No step that is made leaves PC
+ * above 01007F.
  *
  * An image is SLU of version 0001 or 0002. The two have the same layout, and 0002 leaves CALLR out of the set: its operand is a
  * distance, so it breaks when tools move routines. All else is the same in both.
@@ -20,8 +20,9 @@
  * caller's stack. Calls may go on at the same time, in threads or in an interrupt, if no cell that one of them writes is an
  * argument of another; an image and limits, which are only read, may be shared.
  *
- * gate_check and gate_start take some 81 KiB of the caller's stack, whatever the image (83,024 bytes at most were measured): a
- * check's arrays, of a few numbers about each code byte, have 81,920 bytes. No other function takes 4 KiB (3,384 bytes measured).
+ * gate_check and gate_start take less than 82 KiB of the caller's stack, whatever the image (83,024 bytes at most were measured): a
+ * check's arrays, of a few numbers about each code byte, have 81,920 bytes. No other function takes 1 KiB (992 bytes measured). Where
+ * the dynamic linker binds memcpy or memset during a call, it takes some of its own (3,448 bytes in all were measured).
  *
  * The library is for x86-64 with the System V calling convention. A slice is passed as two arguments, the address of its first cell
  * and its length, a number of cells and not of bytes; an array of fixed size, or a struct, is passed as its address alone. */
@@ -35,12 +36,18 @@
 extern "C" {
 #endif
 
-/* Answers of every function: 0, a refusal, a trap, or 64 and 65, which document 01 has no number for. */
+/* The version of the library that this header is of. gate_library_version answers that of the archive. */
+#define GATE_LIBRARY_MAJOR 0u
+#define GATE_LIBRARY_MINOR 2u
+#define GATE_LIBRARY_PATCH 0u
+#define GATE_LIBRARY_VERSION "0.2.0"
+
+/* Answers of every function but gate_library_version: 0, a refusal, a trap, or how a step or a run ended. */
 enum gate_number {
     GATE_OK = 0,                    /* accepted, started, made, gone back, decoded */
     GATE_LIMITS = 1,                /* limits break a rule of struct gate_limits */
     GATE_NOT_SLU = 2,               /* under 8 bytes, or not SLU */
-    GATE_VERSION = 3,               /* version neither 0001 nor 0002 */
+    GATE_UNKNOWN_VERSION = 3,       /* version neither 0001 nor 0002 */
     GATE_LAYOUT = 4,                /* another rule of the layout is broken */
     GATE_MARKS = 5,                 /* fewer marks than code bytes */
     GATE_UNREACHED = 6,             /* a start is not reached */
@@ -65,9 +72,45 @@ enum gate_number {
     GATE_SPENT = 65                 /* a run that used up its budget, PC not 0 */
 };
 
+/* The text of a number, without the offset that a check reports beside it. 18 is of encoding, which no function here does. */
+static inline const char *gate_number_text(uint8_t number)
+{
+    switch (number) {
+    case GATE_OK: return "done";
+    case GATE_LIMITS: return "limits break a rule";
+    case GATE_NOT_SLU: return "under 8 bytes, or not SLU";
+    case GATE_UNKNOWN_VERSION: return "version neither 0001 nor 0002";
+    case GATE_LAYOUT: return "another layout rule is broken";
+    case GATE_MARKS: return "marks too few";
+    case GATE_UNREACHED: return "start not reached";
+    case GATE_DEPTHS_DISAGREE: return "depths disagree";
+    case GATE_OUTSIDE: return "outside the set of the version";
+    case GATE_TRUNCATED: return "the bytes end too soon";
+    case GATE_INTO_INSTRUCTION: return "jump into an instruction";
+    case GATE_DEPTH_RANGE: return "depth leaves 0 to 255, or RET above 0";
+    case GATE_STORE: return "store not allowed";
+    case GATE_JUMP: return "jump leaves its routine";
+    case GATE_CALL: return "call not to an earlier routine";
+    case GATE_FALLS_OFF: return "falls off its routine";
+    case GATE_STACK: return "stack area below the reported need";
+    case GATE_MEMORY: return "memory not 32,768 bytes";
+    case 18: return "no such instruction";
+    case GATE_TRAP_SP: return "SP not from stack low - 1 to stack high";
+    case GATE_TRAP_PC: return "PC not in the code, or the bytes run out";
+    case GATE_TRAP_OUTSIDE: return "outside the set of the version";
+    case GATE_TRAP_STACK: return "SP would leave its range";
+    case GATE_TRAP_STORE: return "direct store not wholly in one of the grants, or SP store outside SP + 1 to stack high";
+    case GATE_RECORD: return "a record of more than two bytes, or with one at an address above 7FFF";
+    case GATE_FINISHED: return "finished";
+    case GATE_SPENT: return "the budget is used up";
+    default: return "unknown number";
+    }
+}
+
 #define GATE_MEMORY_BYTES 32768u    /* the memory that start, step, step back and run are lent: addresses 0000 to 7FFF */
 #define GATE_MARKS_ENOUGH 4096u     /* marks that are enough for every image */
 #define GATE_TEXT_BYTES 24u         /* the cells of a text, its final 0 included */
+#define GATE_ROUTINES 32u           /* the most routines of an image */
 
 /* Addresses, ends included. */
 struct gate_area { uint16_t low, high; };
@@ -106,11 +149,26 @@ struct gate_record {
 /* The library reads and writes a record as eleven 32-bit cells, in this order and with nothing between them. */
 typedef char gate_record_is_eleven_cells[sizeof(struct gate_record) == 44 ? 1 : -1];
 
+/* The layout of an image: its version; its base, the address of the first code byte; how many routines it has; the index in the image
+ * of the first code byte; the number of code bytes; and for each routine, in the image's order, the offset from the first code byte
+ * at which it begins, 0 past the routines. A routine ends where the next one begins, and the last one, which is main, with the code. */
+struct gate_layout { uint16_t version, base, routines, code, size, begins[GATE_ROUTINES]; };
+
+/* The library writes a layout as 37 cells of 16 bits, in this order and with nothing between them. */
+typedef char gate_layout_is_37_cells[sizeof(struct gate_layout) == 74 ? 1 : -1];
+
 /* The cells of a report. */
 enum gate_report { GATE_OFFSET, GATE_NEED, GATE_COUNT, GATE_REPORT };
 
 /* The cells of the cycles of an instruction. */
 enum gate_cycles { GATE_UNTAKEN, GATE_TAKEN, GATE_CYCLES };
+
+/* The version of the library: major * 65536 + minor * 256 + patch. */
+uint32_t gate_library_version(void);
+
+/* Reads the layout of an image. The answer is 0, or the refusal 2, 3 or 4, tested in this order as a check does, which tests the
+ * limits before; that the layout is right does not say that a check accepts the image. Refused, every cell is 0. */
+uint8_t gate_layout(const uint8_t *image, size_t image_length, struct gate_layout *layout);
 
 /* Checks an image under limits. The answer is 0 (accepted) or a refusal from 1 to 16; 1 is of the limits, whatever the image.
  * report: the refusal's offset from the first code byte, 0 for all but 6 to 15 (7 points at its routine's first byte, the others

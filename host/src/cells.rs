@@ -1,7 +1,10 @@
 //! The functions of `include/gate.h` with slices for pointers: the same numbers and the same cells. All unsafe code of this
 //! package is here.
+//!
+//! The functions at the top of the crate are these with a `Result` for the number.
 
-use crate::types::{Limits, TEXT_BYTES};
+use crate::types::{Limits, ROUTINES, TEXT_BYTES};
+use std::mem::size_of;
 
 /// The answer of a step that was made or gone back over, a check that accepted, bytes that were decoded.
 pub const OK: u8 = 0;
@@ -21,20 +24,44 @@ pub type CycleCells = [u8; 2];
 #[derive(Clone, Copy, Debug, Default, PartialEq, Eq)]
 #[repr(C)]
 pub struct RecordCells {
+    /// Those before the step.
     pub registers: RegisterCells,
+    /// How many bytes are meant.
     pub count: u32,
+    /// Address and value of each.
     pub bytes: [[u32; 2]; 2],
 }
 
-// The library reads limits as six 16-bit cells, and reads and writes a record as eleven of 32 bits.
+/// The cells of the layout of an image.
+#[derive(Clone, Copy, Debug, Default, PartialEq, Eq)]
+#[repr(C)]
+pub struct LayoutCells {
+    /// 1 or 2.
+    pub version: u16,
+    /// The address of the first code byte.
+    pub base: u16,
+    /// How many routines there are.
+    pub routines: u16,
+    /// The index in the image of the first code byte.
+    pub code: u16,
+    /// The number of code bytes.
+    pub size: u16,
+    /// The offset from the first code byte at which each routine begins, 0 past the routines.
+    pub begins: [u16; ROUTINES],
+}
+
+// The library reads limits as six 16-bit cells, reads and writes a record as eleven of 32 bits, and writes a layout as 37 of 16 bits.
 const _: () = assert!(size_of::<Limits>() == 6 * size_of::<u16>());
 const _: () = assert!(size_of::<RecordCells>() == 11 * size_of::<u32>());
+const _: () = assert!(size_of::<LayoutCells>() == 37 * size_of::<u16>());
 
 mod c {
-    use super::{CycleCells, Limits, RecordCells, RegisterCells, ReportCells, TEXT_BYTES};
+    use super::{CycleCells, LayoutCells, Limits, RecordCells, RegisterCells, ReportCells, TEXT_BYTES};
 
     // The archive is named by build.rs; the signatures are those of include/gate.h.
     extern "C" {
+        pub fn gate_library_version() -> u32;
+        pub fn gate_layout(image: *const u8, image_length: usize, layout: *mut LayoutCells) -> u8;
         pub fn gate_check(
             image: *const u8,
             image_length: usize,
@@ -92,6 +119,43 @@ mod c {
     }
 }
 
+/// The version of the library, as `gate_library_version` answers it: major * 65536 + minor * 256 + patch.
+///
+/// ```
+/// assert_eq!(gate_host::cells::library_version() >> 16, 0);
+/// ```
+pub fn library_version() -> u32 {
+    // SAFETY: the function has no arguments, and nothing is written.
+    unsafe { c::gate_library_version() }
+}
+
+/// Reads the layout of an image, as `gate_layout` does.
+///
+/// ```
+/// use gate_host::cells::{self, LayoutCells};
+/// let image = b"SLU\x00\x01\x80\x00\x01\x00\x05\xA6\x05\xB7\x10\x81";
+/// let mut layout = LayoutCells::default();
+/// assert_eq!(cells::layout(image, &mut layout), cells::OK);
+/// assert_eq!((layout.code, layout.size, layout.begins[0]), (10, 5, 0));
+/// ```
+pub fn layout(image: &[u8], layout: &mut LayoutCells) -> u8 {
+    // SAFETY: as for `check`: every pointer comes with its length from one reference, and what is written from `&mut`. `LayoutCells`
+    // is `repr(C)`: 37 `u16` in the order of gate.h's struct, with nothing between them.
+    unsafe { c::gate_layout(image.as_ptr(), image.len(), layout) }
+}
+
+/// Checks an image under limits, as `gate_check` does.
+///
+/// ```
+/// # use gate_host::cells::{self, ReportCells};
+/// # use gate_host::{Area, Limits};
+/// # let area = |low, high| Area { low, high };
+/// # let limits = Limits { grant: area(0x0000, 0x00FF), stack: area(0x0300, 0x03FF), second: Area::NONE };
+/// # let image = b"SLU\x00\x01\x80\x00\x01\x00\x05\xA6\x05\xB7\x10\x81";
+/// let (mut marks, mut report) = ([0; 5], ReportCells::default());
+/// assert_eq!(cells::check(image, &limits, &mut marks, &mut report), cells::OK);
+/// assert_eq!((marks, report), ([1, 0, 1, 0, 1], [0, 2, 3]));
+/// ```
 pub fn check(image: &[u8], limits: &Limits, marks: &mut [u16], report: &mut ReportCells) -> u8 {
     // SAFETY: each pointer comes from a reference that lives through the call, so it is not null (an empty slice's neither),
     // aligned, and leads to as many cells as the length beside it or its array type says. `Limits` is `repr(C)`: six `u16` in the
@@ -99,6 +163,18 @@ pub fn check(image: &[u8], limits: &Limits, marks: &mut [u16], report: &mut Repo
     unsafe { c::gate_check(image.as_ptr(), image.len(), limits, marks.as_mut_ptr(), marks.len(), report) }
 }
 
+/// Starts a routine, as `gate_start` does.
+///
+/// ```
+/// # use gate_host::cells::{self, ReportCells};
+/// # use gate_host::{Area, Limits, MEMORY_BYTES};
+/// # let area = |low, high| Area { low, high };
+/// # let limits = Limits { grant: area(0x0000, 0x00FF), stack: area(0x0300, 0x03FF), second: Area::NONE };
+/// # let image = b"SLU\x00\x01\x80\x00\x01\x00\x05\xA6\x05\xB7\x10\x81";
+/// let (mut marks, mut memory, mut registers) = ([0; 5], vec![0xFF; MEMORY_BYTES], [1, 2, 3, 4, 5, 6]);
+/// let number = cells::start(image, &limits, &mut marks, &mut memory, &mut registers, &mut ReportCells::default());
+/// assert_eq!((number, registers), (cells::OK, [1, 2, 3, 4, 0x03FD, 0x8000]));
+/// ```
 pub fn start(
     image: &[u8],
     limits: &Limits,
@@ -123,6 +199,20 @@ pub fn start(
     }
 }
 
+/// Makes one step, as `gate_step` does.
+///
+/// ```
+/// # use gate_host::cells::{self, RecordCells};
+/// # use gate_host::{Area, Limits, MEMORY_BYTES};
+/// # let area = |low, high| Area { low, high };
+/// # let limits = Limits { grant: area(0x0000, 0x00FF), stack: area(0x0300, 0x03FF), second: Area::NONE };
+/// # let image = b"SLU\x00\x01\x80\x00\x01\x00\x05\xA6\x05\xB7\x10\x81";
+/// let (mut memory, mut registers) = (vec![0xAA; MEMORY_BYTES], [5, 0, 0, 0, 0x03FD, 0x8002]);
+/// let (mut cycles, mut record) = ([0], RecordCells::default());
+/// assert_eq!(cells::step(image, &limits, &mut memory, &mut registers, &mut cycles, &mut record), cells::OK);
+/// assert_eq!((memory[0x0010], registers[5], cycles), (0x05, 0x8004, [1]));
+/// assert_eq!((record.count, record.bytes[0]), (1, [0x0010, 0xAA]));
+/// ```
 pub fn step(
     image: &[u8],
     limits: &Limits,
@@ -136,11 +226,33 @@ pub fn step(
     unsafe { c::gate_step(image.as_ptr(), image.len(), limits, memory.as_mut_ptr(), memory.len(), registers, cycles, record) }
 }
 
+/// Steps back by a record, as `gate_step_back` does.
+///
+/// ```
+/// # use gate_host::cells::{self, RecordCells};
+/// let record = RecordCells { registers: [5, 0, 0, 0, 0x03FD, 0x8002], count: 1, bytes: [[0x0010, 0xAA], [0, 0]] };
+/// let (mut memory, mut registers) = (vec![0; gate_host::MEMORY_BYTES], [0; 6]);
+/// assert_eq!(cells::step_back(&record, &mut memory, &mut registers), cells::OK);
+/// assert_eq!((memory[0x0010], registers), (0xAA, record.registers));
+/// ```
 pub fn step_back(record: &RecordCells, memory: &mut [u8], registers: &mut RegisterCells) -> u8 {
     // SAFETY: as for `step`.
     unsafe { c::gate_step_back(record, memory.as_mut_ptr(), memory.len(), registers) }
 }
 
+/// Makes steps until the routine finishes, traps or `budget` steps are made, as `gate_run` does.
+///
+/// ```
+/// # use gate_host::cells;
+/// # use gate_host::{Area, Limits, MEMORY_BYTES};
+/// # let area = |low, high| Area { low, high };
+/// # let limits = Limits { grant: area(0x0000, 0x00FF), stack: area(0x0300, 0x03FF), second: Area::NONE };
+/// # let image = b"SLU\x00\x01\x80\x00\x01\x00\x05\xA6\x05\xB7\x10\x81";
+/// let (mut memory, mut registers) = (vec![0; MEMORY_BYTES], [0, 0, 0, 0, 0x03FD, 0x8000]);
+/// let (mut steps, mut cycles) = ([0], [0]);
+/// assert_eq!(cells::run(image, &limits, &mut memory, &mut registers, 2, &mut steps, &mut cycles), cells::SPENT);
+/// assert_eq!((registers[5], steps, cycles), (0x8004, [2], [2]));
+/// ```
 pub fn run(
     image: &[u8],
     limits: &Limits,
@@ -156,6 +268,14 @@ pub fn run(
     }
 }
 
+/// Decodes the instruction at the front of bytes, as `gate_decode` does.
+///
+/// ```
+/// # use gate_host::cells;
+/// let (mut text, mut length, mut cycles) = ([0; gate_host::TEXT_BYTES], [0], [0; 2]);
+/// assert_eq!(cells::decode(&[0x26, 0xFE], 0x8000, &mut text, &mut length, &mut cycles), cells::OK);
+/// assert_eq!((&text[..10], length, cycles), (&b"JRNE $8000"[..], [2], [1, 2]));
+/// ```
 pub fn decode(bytes: &[u8], address: u16, text: &mut [u8; TEXT_BYTES], length: &mut [usize; 1], cycles: &mut CycleCells) -> u8 {
     // SAFETY: as for `check`: every pointer comes with its length from one reference, and what is written from `&mut`.
     unsafe { c::gate_decode(bytes.as_ptr(), bytes.len(), address, text, length, cycles) }

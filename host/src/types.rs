@@ -1,4 +1,4 @@
-//! What goes into the loader and what it answers, in the words of document 01.
+//! What goes into the loader and what it answers.
 
 /// The memory that start, step, step back and run are lent: addresses 0000 to 7FFF.
 pub const MEMORY_BYTES: usize = 32_768;
@@ -6,12 +6,16 @@ pub const MEMORY_BYTES: usize = 32_768;
 pub const MARKS_ENOUGH: usize = 4_096;
 /// The cells of a text, its final 0 included.
 pub const TEXT_BYTES: usize = 24;
+/// The most routines of an image.
+pub const ROUTINES: usize = 32;
 
 /// Addresses, ends included. It has no default: one of zeros is byte 0000, and not [`Area::NONE`].
 #[derive(Clone, Copy, Debug, PartialEq, Eq)]
 #[repr(C)]
 pub struct Area {
+    /// The first address.
     pub low: u16,
+    /// The last address.
     pub high: u16,
 }
 
@@ -20,6 +24,12 @@ impl Area {
     pub const NONE: Area = Area { low: 0xFFFF, high: 0x0000 };
 
     /// Whether it has no address: low is above high, whatever the values.
+    ///
+    /// ```
+    /// use gate_host::Area;
+    /// assert!(Area::NONE.is_empty());
+    /// assert!(!Area { low: 0x0000, high: 0x0000 }.is_empty());
+    /// ```
     pub const fn is_empty(self) -> bool {
         self.low > self.high
     }
@@ -29,26 +39,35 @@ impl Area {
 #[derive(Clone, Copy, Debug, PartialEq, Eq)]
 #[repr(C)]
 pub struct Limits {
+    /// Where it may store.
     pub grant: Area,
+    /// Where its stack lies.
     pub stack: Area,
-    /// [`Area::NONE`], or any other that is empty, where there is no second grant.
+    /// Another area where it may store; [`Area::NONE`], or any other that is empty, where there is no second grant.
     pub second: Area,
 }
 
 /// The CPU's registers. PC has 24 bits; 0 means that the routine has finished.
 #[derive(Clone, Copy, Debug, Default, PartialEq, Eq)]
 pub struct Registers {
+    /// The accumulator.
     pub a: u8,
+    /// The index register X.
     pub x: u16,
+    /// The index register Y.
     pub y: u16,
+    /// The flags: V, I1, H, I0, N, Z and C at bits 7, 5, 4, 3, 2, 1 and 0.
     pub cc: u8,
+    /// The stack pointer: the address below the last byte pushed.
     pub sp: u16,
+    /// The address of the next instruction.
     pub pc: u32,
 }
 
 /// A byte of memory that a step overwrote.
 #[derive(Clone, Copy, Debug, Default, PartialEq, Eq)]
 pub struct Overwritten {
+    /// Where it lies.
     pub address: u32,
     /// What it held before.
     pub value: u8,
@@ -60,14 +79,19 @@ pub struct Overwritten {
 /// One made by hand may count more bytes than there are, and have any addresses: stepping back refuses it then.
 #[derive(Clone, Copy, Debug, Default, PartialEq, Eq)]
 pub struct Record {
+    /// The registers before the step.
     pub registers: Registers,
     /// How many of the bytes are meant. The others are not looked at, and are zeros where a step made the record.
     pub count: u32,
+    /// The bytes that were overwritten.
     pub bytes: [Overwritten; 2],
 }
 
 /// Why an image, limits, lent memory or a record were refused.
+///
+/// A later version of the library may refuse with more numbers, so a match needs an arm for all others.
 #[derive(Clone, Copy, Debug, PartialEq, Eq)]
+#[non_exhaustive]
 #[repr(u8)]
 pub enum Refusal {
     /// Limits break a rule.
@@ -75,7 +99,7 @@ pub enum Refusal {
     /// Under 8 bytes, or not SLU.
     NotSlu = 2,
     /// The version is neither 0001 nor 0002.
-    Version = 3,
+    UnknownVersion = 3,
     /// Another rule of the layout is broken.
     Layout = 4,
     /// Fewer marks than code bytes.
@@ -112,7 +136,7 @@ impl Refusal {
     const ALL: [Refusal; 18] = [
         Refusal::Limits,
         Refusal::NotSlu,
-        Refusal::Version,
+        Refusal::UnknownVersion,
         Refusal::Layout,
         Refusal::Marks,
         Refusal::Unreached,
@@ -130,18 +154,30 @@ impl Refusal {
         Refusal::Record,
     ];
 
-    /// The number of documents 01 and 02: 1 to 17, or 26.
+    /// Its number: 1 to 17, or 26.
+    ///
+    /// ```
+    /// assert_eq!(gate_host::Refusal::Store.number(), 12);
+    /// ```
     pub fn number(self) -> u8 {
         self as u8
     }
 
     /// The refusal of a number.
+    ///
+    /// ```
+    /// use gate_host::Refusal;
+    /// assert_eq!(Refusal::from_number(12), Some(Refusal::Store));
+    /// assert_eq!(Refusal::from_number(25), None); // a trap
+    /// ```
     pub fn from_number(number: u8) -> Option<Refusal> {
         Refusal::ALL.into_iter().find(|refusal| refusal.number() == number)
     }
 }
 
 /// Why a step was not made. A trap changes nothing.
+///
+/// The traps are those of the machine, which has no others, so a match may name all of them.
 #[derive(Clone, Copy, Debug, PartialEq, Eq)]
 #[repr(u8)]
 pub enum Trap {
@@ -160,12 +196,22 @@ pub enum Trap {
 impl Trap {
     const ALL: [Trap; 5] = [Trap::Sp, Trap::Pc, Trap::Outside, Trap::Stack, Trap::Store];
 
-    /// Document 01's number, 21 to 25.
+    /// Its number: 21 to 25.
+    ///
+    /// ```
+    /// assert_eq!(gate_host::Trap::Pc.number(), 22);
+    /// ```
     pub fn number(self) -> u8 {
         self as u8
     }
 
     /// The trap of a number.
+    ///
+    /// ```
+    /// use gate_host::Trap;
+    /// assert_eq!(Trap::from_number(22), Some(Trap::Pc));
+    /// assert_eq!(Trap::from_number(12), None); // a refusal
+    /// ```
     pub fn from_number(number: u8) -> Option<Trap> {
         Trap::ALL.into_iter().find(|trap| trap.number() == number)
     }
@@ -183,6 +229,7 @@ pub struct Accepted {
 /// What a check says of an image that it refuses.
 #[derive(Clone, Copy, Debug, PartialEq, Eq)]
 pub struct Refused {
+    /// Why.
     pub refusal: Refusal,
     /// From the first code byte; 0 for all but 6 to 15.
     pub offset: u16,
@@ -197,7 +244,9 @@ impl From<Refusal> for Refused {
 /// A step's answer.
 #[derive(Clone, Copy, Debug, PartialEq, Eq)]
 pub enum Step {
+    /// Registers and memory are those after the instruction.
     Made {
+        /// Those of the instruction.
         cycles: u64,
     },
     /// It began at PC 0, changed nothing, and took no cycles.
@@ -209,15 +258,18 @@ pub enum Step {
 /// How a run ended.
 #[derive(Clone, Copy, Debug, PartialEq, Eq)]
 pub enum Ending {
+    /// PC is 0.
     Finished,
     /// The budget is used up and PC is not 0.
     Spent,
+    /// The next step traps.
     Trapped(Trap),
 }
 
 /// A run's answer.
 #[derive(Clone, Copy, Debug, PartialEq, Eq)]
 pub struct Run {
+    /// How it ended.
     pub ending: Ending,
     /// The steps made, the trapping one not counted.
     pub steps: u32,
@@ -225,11 +277,33 @@ pub struct Run {
     pub cycles: u64,
 }
 
+impl Run {
+    /// Whether the routine has finished: false where the budget is used up, so that it can run on; a trap is an error.
+    ///
+    /// ```
+    /// # use gate_host::{Ending, Run, Trap};
+    /// let run = |ending| Run { ending, steps: 3, cycles: 6 };
+    /// assert_eq!(run(Ending::Finished).finished(), Ok(true));
+    /// assert_eq!(run(Ending::Spent).finished(), Ok(false));
+    /// assert_eq!(run(Ending::Trapped(Trap::Pc)).finished(), Err(Trap::Pc));
+    /// ```
+    pub fn finished(&self) -> Result<bool, Trap> {
+        match self.ending {
+            Ending::Finished => Ok(true),
+            Ending::Spent => Ok(false),
+            Ending::Trapped(trap) => Err(trap),
+        }
+    }
+}
+
 /// An instruction's length, text and cycles.
 #[derive(Clone, Copy, Debug, PartialEq, Eq)]
 pub struct Decoded {
+    /// The number of its bytes.
     pub length: usize,
+    /// It in the manual's assembler notation.
     pub text: Text,
+    /// What it costs.
     pub cycles: Cycles,
 }
 
@@ -237,7 +311,9 @@ pub struct Decoded {
 /// where one is printed. Wait states and pipeline stalls are not counted.
 #[derive(Clone, Copy, Debug, PartialEq, Eq)]
 pub struct Cycles {
+    /// Where a jump is not taken.
     pub untaken: u8,
+    /// Where it is.
     pub taken: u8,
 }
 
@@ -246,6 +322,13 @@ pub struct Cycles {
 pub struct Text(pub [u8; TEXT_BYTES]);
 
 impl Text {
+    /// The letters, without the zeros.
+    ///
+    /// ```
+    /// let decoded = gate_host::decode(&[0xA6, 0x05], 0x8000)?;
+    /// assert_eq!(decoded.text.as_str(), "LD A,#$05");
+    /// # Ok::<(), gate_host::Refusal>(())
+    /// ```
     pub fn as_str(&self) -> &str {
         let length = self.0.iter().position(|&byte| byte == 0).unwrap_or(TEXT_BYTES);
         std::str::from_utf8(&self.0[..length]).unwrap_or("")

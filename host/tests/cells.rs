@@ -1,6 +1,6 @@
 //! The cells of the C interface: each function writes those that it is given, and none beside them.
 
-use gate_host::cells::{self, RecordCells};
+use gate_host::cells::{self, LayoutCells, RecordCells};
 use gate_host::{Area, Limits, MEMORY_BYTES, TEXT_BYTES};
 use std::hint::black_box;
 
@@ -47,6 +47,9 @@ fn all_others_write_their_cells_alone() {
     let mut report = Guarded::new([0; 3]);
     assert_eq!(cells::check(IMAGE, &LIMITS, &mut marks.cells, &mut report.cells), cells::OK);
     assert!(marks.is_whole() && report.is_whole(), "check");
+    let mut layout = Guarded::new(LayoutCells::default());
+    assert_eq!(cells::layout(IMAGE, &mut layout.cells), cells::OK);
+    assert!(layout.is_whole(), "layout");
     let mut memory = Box::new(Guarded::new([0; MEMORY_BYTES]));
     let mut registers = Guarded::new([0; 6]);
     let (lent, given) = (&mut memory.cells, &mut registers.cells);

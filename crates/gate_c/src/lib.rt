@@ -7,6 +7,8 @@ ghost use Rattle.machine.specs.Step.{stepped};
 ghost use Rattle.machine.specs.Run.{ran};
 ghost use Rattle.records.specs.Recording.{twoCells, recorded};
 ghost use Rattle.stm8.specs.Decoding.{decoded, decodingNumber};
+ghost use Rattle.image.specs.Validation.{validationNumber};
+ghost use Rattle.layout_cells.specs.Cells.{laidOut, layoutCells};
 ghost use mathlib.Core.List.{[], _∷_};
 ghost use Rattle.gate_c.specs.Cells.{limitsIn, registersIn, registerCells, reportCells, recordIn, recordCells, backCells};
 ghost use Rattle.gate_c.specs.Cells.{decodedLength, textCells, cycleCells, startedBy, startedCells, steppedCells, ranCells};
@@ -24,6 +26,7 @@ use gate::start;
 use gate::step;
 use gate::step_back;
 use gate::step_number;
+use layout_cells::layout_of;
 use rules::verdict_number;
 use stm8::Decoded;
 use timing::decode_timed_for;
@@ -321,4 +324,22 @@ pub extern "C" fn gate_decode(
     *length = [decoded_length(found)];
     *cycles = [figures.untaken, figures.taken];
     decoding_number(found)
+}
+
+// The layout of an image by itself: version, base, how many routines, the index of the first code byte, how many code bytes, and where each of 32
+// routines begins. All cells are 0 where it is refused.
+#[no_mangle]
+pub extern "C" fn gate_layout(image: &[u8], cells: &mut [u16; 37]) -> u8
+    ensures { λ r. ⌜ r ≡ validationNumber (laidOut (now (image .entry))) ⌝ }
+    ensures { λ _. ⌜ now (cells .exit) ≡ layoutCells (now (image .entry)) (laidOut (now (image .entry))) ⌝ }
+{
+    layout_of(image, cells)
+}
+
+// The version of this library, 0.2.0: major, minor and patch, a byte each.
+#[no_mangle]
+pub extern "C" fn gate_library_version() -> u32
+    ensures { λ r. ⌜ r ≡ 0x000200 ⌝ }
+{
+    0x000200
 }

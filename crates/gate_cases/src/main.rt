@@ -1,9 +1,5 @@
-// Runs the cases of standard input, a line each: what the case is about, a colon, and in hexadecimal the limits (12 bytes) and the number of
-// marks (1); then 00 and the image for a check, or 01, the size of memory (2), A, X, Y and CC (6) and the image for a start. Every mark is 9
-// before. Prints what the case is about, the verdict and the marks after it. A start has a line more: the registers, the top three stack bytes and
-// two digests, of all memory and of the bytes outside the grants and the top `need` stack bytes. Where it is accepted, two lines tell the steps made,
-// their cycles and the same after a run to the end, in one piece and, on a memory like the first, in pieces of 1, 2, 3 and 7 steps with a single step
-// after each. No contract can speak of what is printed.
+// Replays the checks and starts of the conformance corpus (conformance/README.md has the fields of a line and the forms of an answer): prints each line
+// of standard input anew, with what checking, or starting and running to the end, comes to. No contract can speak of what is printed.
 ghost use mathlib.Core.Path.{_≡_};
 ghost use mathlib.Core.Bool.{false, cond};
 ghost use Prim.Native.Nat.{_/_, _%_, _≤_, _<_};
@@ -63,8 +59,8 @@ fn print_figures(word: &[u8], a: u16, b: u16) {
 
 fn print_verdict(v: Verdict) {
     match v {
-        Verdict::Accepted(need, count) => print_figures(b": accepted ", need, count),
-        Verdict::Refused(number, offset) => print_figures(b": refused ", number as u16, offset),
+        Verdict::Accepted(need, count) => print_figures(b"accepted ", need, count),
+        Verdict::Refused(number, offset) => print_figures(b"refused ", number as u16, offset),
     }
 }
 
@@ -75,7 +71,6 @@ fn print_marks(marks: &[u16]) {
         print_number(b" ", marks[i] as u64);
         i += 1;
     }
-    print(b"\n");
 }
 
 // The top three stack bytes.
@@ -162,7 +157,6 @@ fn print_state(registers: Registers, memory: &[u8], limits: Limits, need: u16) {
         b", outside ",
         digest(memory, limits.grant, limits.second, used_bytes(stack, need)),
     );
-    print(b"\n");
 }
 
 // How many steps the k-th piece has.
@@ -243,11 +237,11 @@ fn print_runs(
 ) {
     let timed = gate::run(image, limits, start, memory, 4294967295);
     let ran = timed.ran;
-    print_number(b"  whole, steps ", ran.steps as u64);
+    print_number(b"; whole, steps ", ran.steps as u64);
     print_number(b", cycles ", timed.cycles);
     print_state(ran.registers, memory, limits, need);
     let cut = pieces(image, limits, start, other);
-    print_number(b"  pieces, steps ", cut.steps);
+    print_number(b"; pieces, steps ", cut.steps);
     print_number(b", cycles ", cut.cycles);
     print_state(cut.registers, other, limits, need);
 }
@@ -262,14 +256,14 @@ fn start(case: &[u8], image: &[u8], marks: &mut [u16], memory: &mut [u8]) -> Sta
         limits_of(case),
         marks,
         memory,
-        byte_at(case, 16),
-        word_at(case, 17),
-        word_at(case, 19),
-        byte_at(case, 21),
+        byte_at(case, 15),
+        word_at(case, 16),
+        word_at(case, 18),
+        byte_at(case, 20),
     )
 }
 
-// The lines of a start, and of the runs where it is accepted.
+// What comes of a start, and of the runs where it is accepted.
 fn start_case(case: &[u8], image: &[u8], marks: &mut [u16], memory: &mut [u8], other: &mut [u8]) {
     let limits = limits_of(case);
     let started = start(case, image, marks, memory);
@@ -277,7 +271,7 @@ fn start_case(case: &[u8], image: &[u8], marks: &mut [u16], memory: &mut [u8], o
     let registers = started.registers;
     print_verdict(verdict);
     print_marks(marks);
-    print(b"  start");
+    print(b"; start");
     match verdict {
         Verdict::Refused(_, _) => print_state(registers, memory, limits, 0),
         Verdict::Accepted(need, _) => {
@@ -293,25 +287,25 @@ fn check_case(image: &[u8], limits: Limits, marks: &mut [u16]) {
     print_marks(marks);
 }
 
-// The lines of a case, after what it is about. A case that is cut short has none.
-fn case_lines(case: &[u8], marks: &mut [u16]) {
-    if case.len() < 14 {
+// The answer of a case. One that is cut short has none.
+fn print_answer(starts: bool, case: &[u8], marks: &mut [u16]) {
+    if case.len() < 13 {
         return;
     }
-    if case[13] == 0 {
-        check_case(&case[14..], limits_of(case), marks);
+    if !starts {
+        check_case(&case[13..], limits_of(case), marks);
         return;
     }
-    if case.len() < 22 {
+    if case.len() < 21 {
         return;
     }
     let mut memory = [0u8; 32769];
     let mut other = [0u8; 32769];
-    let size = word_at(case, 14) as usize;
+    let size = word_at(case, 13) as usize;
     if size <= 32769 {
         start_case(
             case,
-            &case[22..],
+            &case[21..],
             marks,
             &mut memory[..size],
             &mut other[..size],
@@ -319,35 +313,38 @@ fn case_lines(case: &[u8], marks: &mut [u16]) {
     }
 }
 
+// The case of a line's kind and digits, from the colon on.
 fn case(text: &[u8]) {
     let mut bytes = [0u8; 128];
     let mut marks = [9u16; 256];
+    let starts = byte_at(text, 2) == b's';
     let n = parse(text, &mut bytes);
     let cells = byte_at(&bytes, 12) as usize;
-    case_lines(&bytes[..n], &mut marks[..cells]);
+    print_answer(starts, &bytes[..n], &mut marks[..cells]);
 }
 
-// The lines of each case of a text, and how many cases there are.
-fn cases(text: &[u8]) -> usize
-    ensures { λ r. ⌜ r ≤ length (now (text .entry)) ⌝ }
-{
-    let mut n = 0;
+// The line of a case anew: up to its answer as it stands, then the answer that it gets here.
+fn print_case(line: &[u8]) {
+    let colon = find(line, 0, line.len(), b':');
+    let equals = find(line, colon, line.len(), b'=');
+    print(&line[..equals]);
+    print(b"= ");
+    case(&line[colon..equals]);
+    print(b"\n");
+}
+
+// Each line of a text.
+fn print_cases(text: &[u8]) {
     let mut at = 0;
     while at < text.len() {
-        let colon = find(text, at, text.len(), b':');
-        let end = find(text, colon, text.len(), b'\n');
-        print(&text[at..colon]);
-        case(&text[colon..end]);
-        n += 1;
+        let end = find(text, at, text.len(), b'\n');
+        print_case(&text[at..end]);
         at = end + 1;
     }
-    n
 }
 
 fn main() {
     let mut text = io::large_buffer();
     let n = io::read_full(STDIN_FILENO, &mut text);
-    let count = cases(&text[..n]);
-    print_number(b"", count as u64);
-    print(b" cases\n");
+    print_cases(&text[..n]);
 }

@@ -1,4 +1,4 @@
--- A case as bytes: limits, the size of memory, registers at 14, a step or a run, and the budget at 26.
+-- A case as bytes: limits, the size of memory at 12, registers at 14, and for a run the budget at 25.
 use Prim.Native.Nat.{ℕ, _+_, _*_}
 use mathlib.Core.List.{List}
 use lib.ListN.{take, drop}
@@ -17,4 +17,4 @@ stepOf bytes image memory = stepped image (limitsOf bytes) (registersOf (take 11
 -- its run
 abbrev pub runOf : List ℕ → List ℕ → List ℕ → Ran × List ℕ
 runOf bytes image memory =
-    ran (wordAt bytes 26 * 65536 + wordAt bytes 28) image (limitsOf bytes) (registersOf (take 11 (drop 14 bytes))) memory
+    ran (wordAt bytes 25 * 65536 + wordAt bytes 27) image (limitsOf bytes) (registersOf (take 11 (drop 14 bytes))) memory

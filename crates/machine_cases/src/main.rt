@@ -1,7 +1,5 @@
-// Runs the cases of standard input, a line each: what the case is about, a colon, and in hexadecimal the limits (12 bytes), the size of memory
-// (2), the registers A, X, Y, CC, SP and PC (11), 00 for a step or 01 for a run (1), the run's budget (4), the image's length (1), the image, and the
-// cells of memory that are not 00, an address and a byte each. Prints what the case is about, the answer, the cycles, the registers and those cells
-// after it, in hexadecimal but for counts, and at last how many cases there were. No contract can speak of what is printed.
+// Replays the steps and runs of the conformance corpus (conformance/README.md has the fields of a line and the forms of an answer): prints each line
+// of standard input anew, with the answer that the machine gives. No contract can speak of what is printed.
 ghost use mathlib.Core.Path.{_≡_};
 ghost use Prim.Native.Nat.{_≤_};
 ghost use lib.ListN.{length};
@@ -51,30 +49,29 @@ fn print_cells(memory: &[u8], cells: &[u8]) {
         print_cell(address, byte_at(memory, address as usize));
         at += 3;
     }
-    print(b"\n");
 }
 
 fn print_step_answer(answer: StepAnswer) {
     match answer {
-        StepAnswer::Made => print(b": made"),
-        StepAnswer::Finished => print(b": finished"),
-        StepAnswer::Trap(number) => print_number(b": trap ", number as u64),
-        StepAnswer::Refused(number) => print_number(b": refused ", number as u64),
+        StepAnswer::Made => print(b"made"),
+        StepAnswer::Finished => print(b"finished"),
+        StepAnswer::Trap(number) => print_number(b"trap ", number as u64),
+        StepAnswer::Refused(number) => print_number(b"refused ", number as u64),
     }
 }
 
 fn print_run_answer(answer: RunAnswer) {
     match answer {
-        RunAnswer::Finished => print(b": finished"),
-        RunAnswer::Spent => print(b": spent"),
-        RunAnswer::Trap(number) => print_number(b": trap ", number as u64),
-        RunAnswer::Refused(number) => print_number(b": refused ", number as u64),
+        RunAnswer::Finished => print(b"finished"),
+        RunAnswer::Spent => print(b"spent"),
+        RunAnswer::Trap(number) => print_number(b"trap ", number as u64),
+        RunAnswer::Refused(number) => print_number(b"refused ", number as u64),
     }
 }
 
 // A step from the case's registers: its answer and its cycles are printed.
 fn step_case(case: &[u8], image: &[u8], memory: &mut [u8]) -> Registers
-    requires { ⌜ 31 ≤ length (now case) ⌝ }
+    requires { ⌜ 25 ≤ length (now case) ⌝ }
     ensures { λ r. ⌜ r ≡ stepOf (now (case .entry)) (now (image .entry)) (now (memory .entry)) .0 .registers ⌝ }
     ensures { λ r. ⌜ now (memory .exit) ≡ stepOf (now (case .entry)) (now (image .entry)) (now (memory .entry)) .1 ⌝ }
 {
@@ -88,7 +85,7 @@ fn step_case(case: &[u8], image: &[u8], memory: &mut [u8]) -> Registers
 
 // A run from them: its answer, the steps made and their cycles are printed.
 fn run_case(case: &[u8], image: &[u8], memory: &mut [u8]) -> Registers
-    requires { ⌜ 31 ≤ length (now case) ⌝ }
+    requires { ⌜ 25 ≤ length (now case) ⌝ }
     ensures { λ r. ⌜ r ≡ runOf (now (case .entry)) (now (image .entry)) (now (memory .entry)) .0 .registers ⌝ }
     ensures { λ r. ⌜ now (memory .exit) ≡ runOf (now (case .entry)) (now (image .entry)) (now (memory .entry)) .1 ⌝ }
 {
@@ -97,7 +94,7 @@ fn run_case(case: &[u8], image: &[u8], memory: &mut [u8]) -> Registers
         limits_of(case),
         registers_of(&case[14..25]),
         memory,
-        word_at(case, 26) as u32 * 65536 + word_at(case, 28) as u32,
+        word_at(case, 25) as u32 * 65536 + word_at(case, 27) as u32,
     );
     let ran = timed.ran;
     let answer = ran.answer;
@@ -107,56 +104,66 @@ fn run_case(case: &[u8], image: &[u8], memory: &mut [u8]) -> Registers
     ran.registers
 }
 
-// The line of a case, after what it is about. A case that is cut short has none.
-fn case_line(case: &[u8], memory: &mut [u8]) {
-    let end = 31 + byte_at(case, 30) as usize;
+// Where the image begins, after its length: a run has a budget before that.
+fn image_at(run: bool) -> usize
+    ensures { λ r. ⌜ (26 ≤ r) × (r ≤ 30) ⌝ }
+{
+    if run { 30 } else { 26 }
+}
+
+// The answer of a case. One that is cut short has none.
+fn print_answer(run: bool, case: &[u8], memory: &mut [u8]) {
+    let from = image_at(run);
+    let end = from + byte_at(case, from - 1) as usize;
     if case.len() < end {
         return;
     }
-    let image = &case[31..end];
+    let image = &case[from..end];
     let cells = &case[end..];
     put_cells(memory, cells);
-    let registers = if byte_at(case, 25) == 0 {
-        step_case(case, image, memory)
-    } else {
+    let registers = if run {
         run_case(case, image, memory)
+    } else {
+        step_case(case, image, memory)
     };
     print_registers(registers);
     print_cells(memory, cells);
 }
 
-// The case that a line's digits spell, on a memory of zeros of its size.
+// The case of a line's kind and digits, from the colon on, on a memory of zeros of its size.
 fn case(text: &[u8]) {
     let mut bytes = [0u8; 128];
-    let mut memory = [0u8; 32768];
+    let mut memory = [0u8; 32769];
+    let run = byte_at(text, 2) == b'r';
     let n = parse(text, &mut bytes);
     let size = word_at(&bytes, 12) as usize;
-    if size <= 32768 {
-        case_line(&bytes[..n], &mut memory[..size]);
+    if size <= 32769 {
+        print_answer(run, &bytes[..n], &mut memory[..size]);
     }
 }
 
-// A line for each case of a text, and how many there are.
-fn cases(text: &[u8]) -> usize
-    ensures { λ r. ⌜ r ≤ length (now (text .entry)) ⌝ }
-{
-    let mut n = 0;
+// The line of a case anew: up to its answer as it stands, then the answer that it gets here.
+fn print_case(line: &[u8]) {
+    let colon = find(line, 0, line.len(), b':');
+    let equals = find(line, colon, line.len(), b'=');
+    print(&line[..equals]);
+    print(b"= ");
+    case(&line[colon..equals]);
+    print(b"\n");
+}
+
+// Each line of a text.
+fn print_cases(text: &[u8]) {
     let mut at = 0;
     while at < text.len() {
-        let colon = find(text, at, text.len(), b':');
-        let end = find(text, colon, text.len(), b'\n');
-        print(&text[at..colon]);
-        case(&text[colon..end]);
-        n += 1;
+        let end = find(text, at, text.len(), b'\n');
+        print_case(&text[at..end]);
         at = end + 1;
     }
-    n
 }
 
 fn main() {
     let mut text = io::large_buffer();
     let n = io::read_full(STDIN_FILENO, &mut text);
-    let count = cases(&text[..n]);
-    print_number(b"", count as u64);
-    print(b" cases\n");
+    print_cases(&text[..n]);
 }

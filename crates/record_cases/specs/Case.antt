@@ -1,4 +1,4 @@
--- A record made by hand as bytes: registers at 3, the count at 14, and twice an address and a value.
+-- A record made by hand as bytes: the size of memory, registers at 2, the count at 13, and twice an address and a value.
 use Prim.Native.Nat.{ℕ, _+_, _*_}
 use mathlib.Core.List.{List, [], _∷_}
 use lib.ListN.{getD, take, drop}
@@ -13,8 +13,8 @@ longAt bytes at = wordAt bytes at * 65536 + wordAt bytes (at + 2)
 abbrev pub recordIn : List ℕ → Record
 recordIn bytes =
     record {
-      registers = registersOf (take 11 (drop 3 bytes));
-      count = longAt bytes 14;
-      addresses = longAt bytes 18 ∷ longAt bytes 23 ∷ [];
-      values = getD bytes 22 0 ∷ getD bytes 27 0 ∷ [];
+      registers = registersOf (take 11 (drop 2 bytes));
+      count = longAt bytes 13;
+      addresses = longAt bytes 17 ∷ longAt bytes 22 ∷ [];
+      values = getD bytes 21 0 ∷ getD bytes 26 0 ∷ [];
     }

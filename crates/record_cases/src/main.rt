@@ -1,12 +1,7 @@
-// Runs the cases of standard input, a line each: what the case is about, a colon, and in hexadecimal 00 for a step or 01 for a record made by hand (1
-// byte), the size of memory (2), and the registers A, X, Y, CC, SP and PC (11), of the step or of the record. Then, for a step, the limits (12), the
-// image's length (1) and the image; for a record its count (4), and twice an address (4) and a value (1). Last, the cells of memory that are not 00, an
-// address and a byte each.
-//
-// Of a step it prints the answer, the bytes of its record, the registers and those cells after it; then the number of giving the record back, the
-// registers and the cells after that, and whether all memory is as it was. Of a record it prints the latter alone. No contract can speak of what is
-// printed.
+// Replays the records of the conformance corpus (conformance/README.md has the fields of a line and the forms of an answer): prints each line of
+// standard input anew, with what a step with its record and giving it back come to. No contract can speak of what is printed.
 ghost use mathlib.Core.Path.{_≡_};
+ghost use mathlib.Core.Bool.{cond};
 ghost use Prim.Native.Nat.{_≤_};
 ghost use lib.ListN.{length};
 ghost use Rattle.records.specs.Back.{steppedBack};
@@ -83,14 +78,14 @@ fn long_at(bytes: &[u8], at: usize) -> u32
 
 // The record of a case.
 fn record_of(case: &[u8]) -> Record
-    requires { ⌜ 28 ≤ length (now case) ⌝ }
+    requires { ⌜ 27 ≤ length (now case) ⌝ }
     ensures { λ r. ⌜ r ≡ recordIn (now (case .entry)) ⌝ }
 {
     Record {
-        registers: registers_of(&case[3..14]),
-        count: long_at(case, 14),
-        addresses: [long_at(case, 18), long_at(case, 23)],
-        values: [byte_at(case, 22), byte_at(case, 27)],
+        registers: registers_of(&case[2..13]),
+        count: long_at(case, 13),
+        addresses: [long_at(case, 17), long_at(case, 22)],
+        values: [byte_at(case, 21), byte_at(case, 26)],
     }
 }
 
@@ -99,7 +94,7 @@ fn give_back(given: Record, memory: &mut [u8], first: &[u8], cells: &[u8])
     ensures { λ _. ⌜ now (memory .exit) ≡ steppedBack given (now (memory .entry)) .1 ⌝ }
 {
     let back = step_back(given, memory);
-    print_number(b": back ", back.number as u64);
+    print_number(b"back ", back.number as u64);
     print_registers(back.registers);
     print_cells(memory, cells);
     if check::same(memory, first) {
@@ -109,83 +104,92 @@ fn give_back(given: Record, memory: &mut [u8], first: &[u8], cells: &[u8])
 
 // A step with its record, which is then given back.
 fn step_case(case: &[u8], memory: &mut [u8], first: &mut [u8]) {
-    let end = 27 + byte_at(case, 26) as usize;
+    let end = 26 + byte_at(case, 25) as usize;
     if case.len() < end {
         return;
     }
-    let image = &case[27..end];
+    let image = &case[26..end];
     let cells = &case[end..];
     put_cells(memory, cells);
     put_cells(first, cells);
-    let s = step(
-        image,
-        limits_of(&case[14..26]),
-        registers_of(&case[3..14]),
-        memory,
-    );
+    let s = step(image, limits_of(case), registers_of(&case[14..25]), memory);
     let stepped = s.stepped;
     let answer = stepped.answer;
-    print_number(b": step ", step_number(answer) as u64);
+    print_number(b"step ", step_number(answer) as u64);
     print_bytes(s.record);
     print_registers(stepped.registers);
     print_cells(memory, cells);
+    print(b"; ");
     give_back(s.record, memory, first, cells);
 }
 
 // A record made by hand.
 fn hand_case(case: &[u8], memory: &mut [u8], first: &mut [u8]) {
-    if case.len() < 28 {
+    if case.len() < 27 {
         return;
     }
-    let cells = &case[28..];
+    let cells = &case[27..];
     put_cells(memory, cells);
     put_cells(first, cells);
     give_back(record_of(case), memory, first, cells);
 }
 
-// The line of a case, after what it is about. A case that is cut short has none.
-fn case_line(case: &[u8], memory: &mut [u8], first: &mut [u8]) {
-    if byte_at(case, 0) == 0 {
+// The answer of a case. One that is cut short has none.
+fn print_answer(recorded: bool, case: &[u8], memory: &mut [u8], first: &mut [u8]) {
+    if recorded {
         step_case(case, memory, first);
     } else {
         hand_case(case, memory, first);
     }
 }
 
-// The case that a line's digits spell, on a memory of zeros of its size.
+// Where the size of memory stands: a step has its limits before that.
+fn size_at(recorded: bool) -> usize
+    ensures { λ r. ⌜ r ≡ cond recorded 12 0 ⌝ }
+{
+    if recorded { 12 } else { 0 }
+}
+
+// The case of a line's kind and digits, from the colon on, on a memory of zeros of its size.
 fn case(text: &[u8]) {
     let mut bytes = [0u8; 128];
     let mut memory = [0u8; 32769];
     let mut first = [0u8; 32769];
+    let recorded = byte_at(text, 2) == b'r';
     let n = parse(text, &mut bytes);
-    let size = word_at(&bytes, 1) as usize;
+    let size = word_at(&bytes, size_at(recorded)) as usize;
     if size <= 32769 {
-        case_line(&bytes[..n], &mut memory[..size], &mut first[..size]);
+        print_answer(
+            recorded,
+            &bytes[..n],
+            &mut memory[..size],
+            &mut first[..size],
+        );
     }
 }
 
-// A line for each case of a text, and how many there are.
-fn cases(text: &[u8]) -> usize
-    ensures { λ r. ⌜ r ≤ length (now (text .entry)) ⌝ }
-{
-    let mut n = 0;
+// The line of a case anew: up to its answer as it stands, then the answer that it gets here.
+fn print_case(line: &[u8]) {
+    let colon = find(line, 0, line.len(), b':');
+    let equals = find(line, colon, line.len(), b'=');
+    print(&line[..equals]);
+    print(b"= ");
+    case(&line[colon..equals]);
+    print(b"\n");
+}
+
+// Each line of a text.
+fn print_cases(text: &[u8]) {
     let mut at = 0;
     while at < text.len() {
-        let colon = find(text, at, text.len(), b':');
-        let end = find(text, colon, text.len(), b'\n');
-        print(&text[at..colon]);
-        case(&text[colon..end]);
-        print(b"\n");
-        n += 1;
+        let end = find(text, at, text.len(), b'\n');
+        print_case(&text[at..end]);
         at = end + 1;
     }
-    n
 }
 
 fn main() {
     let mut text = io::large_buffer();
     let n = io::read_full(STDIN_FILENO, &mut text);
-    let count = cases(&text[..n]);
-    print_number(b"", count as u64);
-    print(b" cases\n");
+    print_cases(&text[..n]);
 }

@@ -7,10 +7,10 @@ use Rattle.gate_cases.proofs.print_marks.Statement.{statement}
 use Rattle.gate_cases.proofs.print_marks.Tie as tie
 
 abbrev Inv-loop : tie.InvT-loop
-Inv-loop marks i₀ t4 t5 i = i ≤ length marks
+Inv-loop marks i₀ t4 i = i ≤ length marks
 
 abbrev μ-loop : tie.MeasureT-loop
-μ-loop marks i₀ t4 t5 i = length marks - i
+μ-loop marks i₀ t4 i = length marks - i
 
 cast-print-number : tie.Need-cast-print-number Inv-loop μ-loop
 cast-print-number c = omega (arith, c .shared-slice-known2 .given (c .before .before .before .loop .i))
@@ -32,6 +32,4 @@ print-marks-spec =
     (λ c. omega arith)
     (λ c. omega arith)
     (λ c. omega arith)
-    (λ c. search needs)
-    (λ c κs. tt)
     (λ c. tt))

@@ -5,25 +5,26 @@ use borrow.Author.Needs.{needs}
 use Rattle.machine_cases.proofs.case.Statement.{statement}
 use Rattle.machine_cases.proofs.case.Tie as tie
 
-slice-aggregate-case-line : tie.Need-slice-aggregate-case-line
-slice-aggregate-case-line c = sym (length-take-le _ _ (c .before .before .before .before .before .parse .ensures .0))
+slice-aggregate-print-answer : tie.Need-slice-aggregate-print-answer
+slice-aggregate-print-answer c = sym (length-take-le _ _ (c .before .before .before .before .before .parse .ensures .0))
 
-slice-aggregate-case-line-2 : tie.Need-slice-aggregate-case-line-2
-slice-aggregate-case-line-2 c = sym (length-take-le _ _ (c .before .before .if1 .taken))
+slice-aggregate-print-answer-2 : tie.Need-slice-aggregate-print-answer-2
+slice-aggregate-print-answer-2 c = sym (length-take-le _ _ (c .before .before .if1 .taken))
 
 pub case-spec : {M : Type 1} → statement M
 case-spec =
     tie.close
     (tie.spec
-    (λ c. search needs)
     (λ c κs. tt)
     (λ c. search needs)
     (λ c κs. tt)
     (λ c. search needs)
+    (λ c κs. tt)
     (λ c. search needs)
-    slice-aggregate-case-line
     (λ c. search needs)
-    slice-aggregate-case-line-2
+    slice-aggregate-print-answer
+    (λ c. search needs)
+    slice-aggregate-print-answer-2
     (λ c κs. tt)
     (λ c. search needs)
     (λ c. search needs))

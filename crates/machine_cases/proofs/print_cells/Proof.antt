@@ -7,10 +7,10 @@ use Rattle.machine_cases.proofs.print_cells.Statement.{statement}
 use Rattle.machine_cases.proofs.print_cells.Tie as tie
 
 abbrev Inv-loop : tie.InvT-loop
-Inv-loop memory cells at₀ t5 at = at ≤ length cells
+Inv-loop memory cells at₀ at = at ≤ length cells
 
 abbrev μ-loop : tie.MeasureT-loop
-μ-loop memory cells at₀ t5 at = length cells - at
+μ-loop memory cells at₀ at = length cells - at
 
 pub print-cells-spec : {M : Type 1} → statement M
 print-cells-spec =
@@ -27,6 +27,4 @@ print-cells-spec =
     (λ c. omega arith)
     (λ c. omega arith)
     (λ c. omega arith)
-    (λ c. search needs)
-    (λ c κs. tt)
     (λ c. tt))

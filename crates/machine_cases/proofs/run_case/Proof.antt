@@ -18,7 +18,7 @@ returns c =
     let c16 = c14 .before .before in
     let a = c16 .before .before .before .before .args in
     let b = c12 .word-at .result * 65536 + c11 .word-at2 .result in
-    let eb : b ≡ wordAt (now (a .case)) 26 * 65536 + wordAt (now (a .case)) 28 = rw (c12 .word-at .ensures, c11 .word-at2 .ensures) in
+    let eb : b ≡ wordAt (now (a .case)) 25 * 65536 + wordAt (now (a .case)) 27 = rw (c12 .word-at .ensures, c11 .word-at2 .ensures) in
     run-parts (now (a .image)) (now (a .memory)) _ (c16 .limits-of .result) _ (c14 .registers-of .result) _
     (c16 .limits-of .ensures) (c14 .registers-of .ensures) (c10 .run .result .ran) b _ eb (c10 .run .ensures .0)
 

@@ -1,0 +1,130 @@
+/* The stack that each function of the library takes of its caller, measured: a thread paints its stack below itself, makes the call,
+ * and what is no longer paint was used. OWN_BYTES of it, at the thread's end, are left unpainted for the thread's own frame. */
+#define _GNU_SOURCE
+#include <pthread.h>
+#include <stdio.h>
+#include <stdlib.h>
+#include <string.h>
+
+#include "gate.h"
+
+enum { STACK_BYTES = 1 << 20, OWN_BYTES = 192, PAINT = 0xA5, HEADER_BYTES = 8, MOST_CODE = 4096 };
+
+static const struct gate_limits limits = { .grant = { 0x0000, 0x00FF }, .stack = { 0x0300, 0x03FF }, .second = GATE_NO_AREA };
+
+/* What the calls are lent. */
+static uint8_t image[HEADER_BYTES + 2 + MOST_CODE];
+static size_t image_length;
+static uint16_t marks[GATE_MARKS_ENOUGH], report[GATE_REPORT];
+static uint8_t memory[GATE_MEMORY_BYTES];
+static uint32_t registers[GATE_REGISTERS], steps[1];
+static uint64_t cycles[1];
+static struct gate_record record;
+static struct gate_layout layout;
+
+static void check(void) { gate_check(image, image_length, &limits, marks, GATE_MARKS_ENOUGH, report); }
+
+static void start(void)
+{
+    gate_start(image, image_length, &limits, marks, GATE_MARKS_ENOUGH, memory, sizeof memory, registers, report);
+}
+
+static void step(void) { gate_step(image, image_length, &limits, memory, sizeof memory, registers, cycles, &record); }
+
+static void step_back(void) { gate_step_back(&record, memory, sizeof memory, registers); }
+
+static void run(void) { gate_run(image, image_length, &limits, memory, sizeof memory, registers, 100000, steps, cycles); }
+
+static void decode(void)
+{
+    uint8_t text[GATE_TEXT_BYTES], figures[GATE_CYCLES];
+    size_t length[1];
+    for (size_t at = image_length - layout.size; at < image_length; at++)
+        gate_decode(image + at, image_length - at, 0x8000, text, length, figures);
+}
+
+static void lay_out(void) { gate_layout(image, image_length, &layout); }
+
+/* Each function, and the most that gate.h says it takes. */
+static const struct { const char *name; void (*call)(void); size_t most; } calls[] = {
+    { "gate_check", check, 82 * 1024 },
+    { "gate_start", start, 82 * 1024 },
+    { "gate_step", step, 1024 },
+    { "gate_step_back", step_back, 1024 },
+    { "gate_run", run, 1024 },
+    { "gate_decode", decode, 1024 },
+    { "gate_layout", lay_out, 1024 },
+};
+
+enum { CALLS = sizeof calls / sizeof calls[0] };
+
+struct measured { void (*call)(void); size_t bytes; };
+
+static uint8_t stack[STACK_BYTES] __attribute__((aligned(64)));
+
+static void *on_thread(void *argument)
+{
+    struct measured *measured = argument;
+    volatile uint8_t *const own = (uint8_t *)__builtin_frame_address(0) - OWN_BYTES;
+    for (volatile uint8_t *byte = stack; byte < own; byte++)
+        *byte = PAINT;
+    measured->call();
+    const uint8_t *lowest = stack;
+    while (lowest < own && *lowest == PAINT)
+        lowest++;
+    measured->bytes = (size_t)(own + OWN_BYTES - lowest);
+    return NULL;
+}
+
+/* The bytes that a call took, OWN_BYTES at least. */
+static size_t used(void (*call)(void))
+{
+    struct measured measured = { call, 0 };
+    pthread_attr_t attributes;
+    pthread_t thread;
+    if (pthread_attr_init(&attributes) || pthread_attr_setstack(&attributes, stack, sizeof stack)
+        || pthread_create(&thread, &attributes, on_thread, &measured) || pthread_join(thread, NULL)) {
+        fprintf(stderr, "no thread could be had\n");
+        exit(1);
+    }
+    return measured.bytes;
+}
+
+/* An image of one routine: pairs of PUSH A and POP A, jumps to the next instruction, stores, or noise, and RET. */
+static void make_image(unsigned kind)
+{
+    static const uint8_t pairs[][4] = {
+        { 0x88, 0x84, 0x88, 0x84 }, { 0x26, 0x00, 0x27, 0x00 }, { 0xB7, 0x10, 0xB6, 0x10 }, { 0x72, 0x01, 0x00, 0x10 },
+    };
+    const size_t size = kind == 0 ? 1 : MOST_CODE;
+    const uint8_t header[] = { 'S', 'L', 'U', 0x00, 0x01, 0x80, 0x00, 0x01, (uint8_t)(size >> 8), (uint8_t)size };
+    memcpy(image, header, sizeof header);
+    for (size_t at = 0; at < size; at++)
+        image[sizeof header + at] = kind <= 4 ? pairs[(kind + 3) % 4][at % 4] : (uint8_t)rand();
+    for (size_t at = kind <= 4 && size > 4 ? size - 4 : size - 1; at < size; at++)
+        image[sizeof header + at] = at == size - 1 ? 0x81 : 0x9D;
+    image_length = sizeof header + size;
+    memset(memory, 0, sizeof memory);
+}
+
+int main(void)
+{
+    enum { KINDS = 40 };
+    size_t most[CALLS] = { 0 };
+    for (unsigned kind = 0; kind < KINDS; kind++) {
+        make_image(kind);
+        lay_out();
+        start();
+        for (int number = 0; number < CALLS; number++) {
+            const size_t bytes = used(calls[number].call);
+            if (bytes > most[number])
+                most[number] = bytes;
+        }
+    }
+    int within = 1;
+    for (int number = 0; number < CALLS; number++) {
+        printf("%-15s %zu of %zu bytes\n", calls[number].name, most[number], calls[number].most);
+        within = within && most[number] <= calls[number].most;
+    }
+    return within ? 0 : 1;
+}
