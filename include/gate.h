@@ -21,8 +21,9 @@
  * argument of another; an image and limits, which are only read, may be shared.
  *
  * gate_check and gate_start take less than 82 KiB of the caller's stack, whatever the image (83,024 bytes at most were measured): a
- * check's arrays, of a few numbers about each code byte, have 81,920 bytes. No other function takes 1 KiB (992 bytes measured). Where
- * the dynamic linker binds memcpy or memset during a call, it takes some of its own (3,448 bytes in all were measured).
+ * check's arrays, of a few numbers about each code byte, have 81,920 bytes. No other function takes 1 KiB (992 bytes measured). A
+ * call in which the dynamic linker binds memcpy or memset, as the first one may be, takes what that takes besides, some 3 KiB: as the
+ * first call of a program gate_start took 85,944 bytes and gate_layout 3,448.
  *
  * The library is for x86-64 with the System V calling convention. A slice is passed as two arguments, the address of its first cell
  * and its length, a number of cells and not of bytes; an array of fixed size, or a struct, is passed as its address alone. */

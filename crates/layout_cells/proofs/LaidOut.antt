@@ -13,6 +13,7 @@ pub laid-out : (image : List ℕ) (limits : Limits) → limitsCheck limits ≡ 0
 unfolding firstIn refusal validated laidOut
 laid-out image limits passed = rw (passed, first-pass)
 
+-- so whatever such limits are found to give is what the image gets by itself
 pub told : (image : List ℕ) (limits : Limits) {answer found : Validated} →
     limitsCheck limits ≡ 0 → answer ≡ validated image limits → answer ≡ found → laidOut image ≡ found
 told image limits passed is found = sym (laid-out image limits passed) ∙ sym is ∙ found

@@ -206,7 +206,7 @@ fn jump_offset(instruction: Instruction) -> Option<i8> {
 }
 
 /// What an instruction adds to the depth. A path may go below 0 and above 255.
-fn depth_change(instruction: Instruction) -> i32 {
+pub fn depth_change(instruction: Instruction) -> i32 {
     use Instruction::*;
     match instruction {
         PushA | PushImmediate(_) | PushLong(_) => 1,

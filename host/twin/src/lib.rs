@@ -14,7 +14,7 @@ mod record;
 pub mod slu;
 mod text;
 
-pub use check::check;
+pub use check::{check, depth_change};
 pub use cycles::when;
 pub use decode::{decode, Alu, Bit, Half, Index, Instruction, Modify, Place, Source, Target, Undecodable, WordOp, WordSource};
 pub use image::{granted, holds, validate, Image};

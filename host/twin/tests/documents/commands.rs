@@ -44,14 +44,17 @@ const LANGUAGES: [(&str, &str); 4] = [
     ("cases", "cases, which it reads too"),
 ];
 
-/// The ending of a paragraph that says: the next block is what the commands or the program before it print.
-const PRINTS: &str = "prints";
+/// The endings of a paragraph that says: the next block is what the commands or the program before it print, and how they end.
+const PRINTS: [(&str, i32); 2] = [("prints", 0), ("prints, with status 1,", 1)];
 
 pub struct Trial {
     /// A folder with the files that a clone has, the archive, and gatecheck if there is one.
     clone: PathBuf,
     gatecheck: bool,
+    sdcc: bool,
     printed: Printed,
+    /// How the last block failed: its status, and the fault that this is unless the document tells of it.
+    failed: Option<(Option<i32>, String)>,
     used: BTreeSet<&'static str>,
     faults: Vec<String>,
     commands: usize,
@@ -84,9 +87,15 @@ impl Trial {
         if gatecheck {
             copy_built(&program, &clone.join("target/bin"));
         }
-        without_rt(&clone.join("bin"));
+        let scripts = clone.join("bin");
+        fs::create_dir_all(&scripts).expect("a folder is made");
+        // No command that is in no list proves for minutes.
+        script(&scripts.join("rt"), "echo 'rt is not run by this test: the command belongs into its list' >&2\nexit 1");
+        let gate = "cargo run --quiet --offline --jobs 1 --manifest-path \"$(dirname \"$0\")/../host/Cargo.toml\" --package gate-command";
+        script(&scripts.join("gate"), &format!("exec {gate} -- \"$@\""));
+        let sdcc = Command::new("sdcc").arg("--version").output().is_ok_and(|done| done.status.success());
         let (printed, used, faults) = (Printed::Nothing, BTreeSet::new(), Vec::new());
-        Trial { clone, gatecheck, printed, used, faults, commands: 0, programs: 0, compared: 0, left_out: 0 }
+        Trial { clone, gatecheck, sdcc, printed, failed: None, used, faults, commands: 0, programs: 0, compared: 0, left_out: 0 }
     }
 
     pub fn hold(&mut self, document: &Document) {
@@ -98,12 +107,15 @@ impl Trial {
             }
             before = if let Kind::Text = block.kind { &block.text } else { "" };
         }
+        self.hold_status(&document.path, None);
     }
 
     fn hold_block(&mut self, place: &str, language: &str, before: &str, block: &str) {
         let none = NO_COMMANDS.iter().find(|(begin, _)| language.is_empty() && block.starts_with(begin));
         let other = LANGUAGES.iter().find(|(name, _)| *name == language);
-        if before.trim_end_matches(':').ends_with(PRINTS) {
+        let prints = PRINTS.iter().find(|(ending, _)| before.trim_end_matches(':').ends_with(ending));
+        self.hold_status(place, prints.map(|(_, status)| *status));
+        if prints.is_some() {
             self.compare(place, block);
         } else if let Some((listed, _)) = none.or(other) {
             self.used.insert(listed);
@@ -116,16 +128,26 @@ impl Trial {
         }
     }
 
+    /// The last block has to end as the document tells, and well where it tells nothing.
+    fn hold_status(&mut self, place: &str, told: Option<i32>) {
+        match (self.failed.take(), told) {
+            (Some((status, _)), Some(told)) if status == Some(told) => {}
+            (Some((_, fault)), _) => self.faults.push(fault),
+            (None, Some(told)) if told != 0 && !matches!(self.printed, Printed::LeftOut) => {
+                self.faults.push(format!("{place}: status {told} is told, and it is 0"));
+            }
+            (None, _) => {}
+        }
+    }
+
     fn run_commands(&mut self, place: &str, block: &str) {
         let block = block.replace("\\\n", " ");
         let lines = block.lines().filter(|line| !line.trim().is_empty() && !line.trim().starts_with('#'));
         let commands: Vec<String> = lines.filter_map(|line| self.instead(line)).collect();
-        let can = |command: &String| {
-            self.gatecheck || !["target/bin/gatecheck", "make install"].iter().any(|needs| command.contains(needs))
-        };
-        let (commands, without): (Vec<String>, Vec<String>) = commands.into_iter().partition(can);
+        let (commands, without): (Vec<String>, Vec<String>) =
+            commands.into_iter().partition(|command| self.missing(command).is_none());
         for command in &without {
-            println!("{place}: left out, for there is no gatecheck beside the archive: {command}");
+            println!("{place}: left out, for there is no {}: {command}", self.missing(command).unwrap_or_default());
         }
         self.left_out += without.len();
         self.commands += commands.len();
@@ -133,6 +155,18 @@ impl Trial {
             self.run(place, &commands.join("\n"));
         } else {
             self.printed = Printed::LeftOut;
+        }
+    }
+
+    /// What a command needs and is not there.
+    fn missing(&self, command: &str) -> Option<&'static str> {
+        let needs = |words: &[&str]| words.iter().any(|word| command.contains(word));
+        if !self.gatecheck && needs(&["target/bin/gatecheck", "make install"]) {
+            Some("gatecheck beside the archive")
+        } else if !self.sdcc && needs(&["sdcc", "sdasstm8", "sdldstm8", "mode.", "examples/make", "examples/stored"]) {
+            Some("sdcc")
+        } else {
+            None
         }
     }
 
@@ -165,17 +199,19 @@ impl Trial {
     fn run(&mut self, place: &str, script: &str) {
         let done = self.shell(script);
         if !done.status.success() {
-            self.faults.push(format!("{place}: {}: {}\n{script}", done.status, String::from_utf8_lossy(&done.stderr)));
+            let fault = format!("{place}: {}: {}\n{script}", done.status, String::from_utf8_lossy(&done.stderr));
+            self.failed = Some((done.status.code(), fault));
         }
         self.printed = Printed::Lines(String::from_utf8_lossy(&done.stdout).into_owned());
     }
 
-    /// The archive is that of the copy, `make install` installs into it, and there is no rt.
+    /// The archive is that of the copy, gate is built in it, `make install` installs into it, and there is no rt.
     fn shell(&self, script: &str) -> Output {
         let installed = self.clone.join("installed");
         let path = format!("{}:{}", self.clone.join("bin").display(), env::var("PATH").unwrap_or_default());
         let mut shell = Command::new("sh");
         shell.args(["-e", "-c", script]).current_dir(&self.clone).stdin(process::Stdio::null()).env("PATH", path);
+        shell.env("GATE", self.clone.join("bin/gate"));
         shell.env("GATE_LIB_DIR", self.clone.join("target/staticlib")).env("PKG_CONFIG_PATH", installed.join("lib/pkgconfig"));
         shell.env("MAKEFLAGS", format!("PREFIX={}", installed.display())).env_remove("CARGO_TARGET_DIR").output().expect("sh")
     }
@@ -208,13 +244,10 @@ fn copy_built(file: &Path, folder: &Path) {
     fs::copy(file, folder.join(file.file_name().expect("a file"))).unwrap_or_else(|error| panic!("{}: {error}", file.display()));
 }
 
-/// Puts a folder before the PATH whose rt fails, so that no command that is in no list proves for minutes.
-fn without_rt(folder: &Path) {
-    let rt = folder.join("rt");
-    fs::create_dir_all(folder).expect("a folder is made");
-    fs::write(&rt, "#!/bin/sh\necho 'rt is not run by this test: the command belongs into its list' >&2\nexit 1\n")
-        .expect("rt is written");
-    fs::set_permissions(&rt, fs::Permissions::from_mode(0o755)).expect("rt may be run");
+/// Writes a script that may be run.
+fn script(path: &Path, text: &str) {
+    fs::write(path, format!("#!/bin/sh\n{text}\n")).expect("a script is written");
+    fs::set_permissions(path, fs::Permissions::from_mode(0o755)).expect("a script may be run");
 }
 
 /// Whether lines are as told, where .. stands for any lines.

@@ -22,7 +22,7 @@ pub fn examples(tree: &Tree) -> (usize, Vec<String>) {
             _ => {}
         }
     }
-    let name = |file: &str| file.strip_suffix(".txt").and_then(|path| path.rsplit('/').next()).map(str::to_string);
+    let name = |file: &str| file.strip_suffix(".verdict").and_then(|path| path.rsplit('/').next()).map(str::to_string);
     let there: BTreeSet<String> = tree.files().filter(|file| file.starts_with("examples/")).filter_map(name).collect();
     faults.extend(there.difference(&listed).map(|name| format!("examples/README.md does not list {name}")));
     (listed.len(), faults)
@@ -30,7 +30,7 @@ pub fn examples(tree: &Tree) -> (usize, Vec<String>) {
 
 /// The stored verdict of an example, in the table's words.
 fn verdict(tree: &Tree, example: &str) -> Option<String> {
-    let path = ["examples", "examples/refused"]
+    let path = ["examples", "examples/refused", "examples/c"]
         .map(|folder| format!("{folder}/{example}.verdict"))
         .into_iter()
         .find(|path| tree.has(path))?;
