@@ -8,21 +8,23 @@
 
 #include "gate.h"
 
-enum { STACK_BYTES = 1 << 20, OWN_BYTES = 192, PAINT = 0xA5, HEADER_BYTES = 8, MOST_CODE = 4096 };
+enum { STACK_BYTES = 1 << 20, OWN_BYTES = 192, PAINT = 0xA5, HEADER_BYTES = 8, LENGTH_BYTES = 4, MOST_CODE = 4096 };
 
 static const struct gate_limits limits = { .grant = { 0x0000, 0x00FF }, .stack = { 0x0300, 0x03FF }, .second = GATE_NO_AREA };
 
 /* What the calls are lent. */
-static uint8_t image[HEADER_BYTES + 2 + MOST_CODE];
+static uint8_t image[HEADER_BYTES + LENGTH_BYTES + MOST_CODE];
 static size_t image_length;
-static uint16_t marks[GATE_MARKS_ENOUGH], report[GATE_REPORT];
+static uint16_t marks[GATE_MARKS_ENOUGH], report[GATE_REPORT], offset[1];
 static uint8_t memory[GATE_MEMORY_BYTES];
-static uint32_t registers[GATE_REGISTERS], steps[1];
+static uint32_t registers[GATE_REGISTERS], steps[1], most_steps[1];
 static uint64_t cycles[1];
 static struct gate_record record;
 static struct gate_layout layout;
 
 static void check(void) { gate_check(image, image_length, &limits, marks, GATE_MARKS_ENOUGH, report); }
+
+static void turn(void) { gate_turn(image, image_length, &limits, marks, GATE_MARKS_ENOUGH, offset, most_steps); }
 
 static void start(void)
 {
@@ -48,6 +50,7 @@ static void lay_out(void) { gate_layout(image, image_length, &layout); }
 /* Each function, and the most that gate.h says it takes. */
 static const struct { const char *name; void (*call)(void); size_t most; } calls[] = {
     { "gate_check", check, 82 * 1024 },
+    { "gate_turn", turn, 82 * 1024 },
     { "gate_start", start, 82 * 1024 },
     { "gate_step", step, 1024 },
     { "gate_step_back", step_back, 1024 },
@@ -90,20 +93,26 @@ static size_t used(void (*call)(void))
     return measured.bytes;
 }
 
-/* An image of one routine: pairs of PUSH A and POP A, jumps to the next instruction, stores, or noise, and RET. */
+/* An image of two routines, NOPs and RET, and main: the same; or before it as many bytes as there may be, of pairs of PUSH A and POP A,
+ * jumps to the next instruction, stores, bit jumps, calls, or noise. */
 static void make_image(unsigned kind)
 {
-    static const uint8_t pairs[][4] = {
+    static const uint8_t leaf[] = { 0x9D, 0x9D, 0x9D, 0x81 };
+    static const uint8_t patterns[][sizeof leaf] = {
         { 0x88, 0x84, 0x88, 0x84 }, { 0x26, 0x00, 0x27, 0x00 }, { 0xB7, 0x10, 0xB6, 0x10 }, { 0x72, 0x01, 0x00, 0x10 },
+        { 0xCD, 0x80, 0x00, 0x9D },
     };
-    const size_t size = kind == 0 ? 1 : MOST_CODE;
-    const uint8_t header[] = { 'S', 'L', 'U', 0x00, 0x01, 0x80, 0x00, 0x01, (uint8_t)(size >> 8), (uint8_t)size };
+    const size_t size = kind == 0 ? sizeof leaf : MOST_CODE - sizeof leaf;
+    const uint8_t header[HEADER_BYTES + LENGTH_BYTES] = {
+        'S', 'L', 'U', 0x00, 0x01, 0x80, 0x00, 0x02, 0x00, sizeof leaf, (uint8_t)(size >> 8), (uint8_t)size,
+    };
+    uint8_t *const code = image + sizeof header, *const last = code + size;
     memcpy(image, header, sizeof header);
-    for (size_t at = 0; at < size; at++)
-        image[sizeof header + at] = kind <= 4 ? pairs[(kind + 3) % 4][at % 4] : (uint8_t)rand();
-    for (size_t at = kind <= 4 && size > 4 ? size - 4 : size - 1; at < size; at++)
-        image[sizeof header + at] = at == size - 1 ? 0x81 : 0x9D;
-    image_length = sizeof header + size;
+    memcpy(code, leaf, sizeof leaf);
+    for (uint8_t *byte = code + sizeof leaf; byte < last; byte++)
+        *byte = kind <= sizeof patterns / sizeof leaf ? patterns[kind - 1][(byte - code) % sizeof leaf] : (uint8_t)rand();
+    memcpy(last, leaf, sizeof leaf);
+    image_length = sizeof header + sizeof leaf + size;
     memset(memory, 0, sizeof memory);
 }
 

@@ -100,14 +100,25 @@ static void print_after(void)
     }
 }
 
+static void print_refused(uint8_t number, uint16_t offset)
+{
+    printf("refused %u %u", (unsigned)number, (unsigned)offset);
+}
+
+static void print_marks(void)
+{
+    printf(", marks");
+    for (size_t at = 0; at < marks_length; at++)
+        printf(" %u", (unsigned)marks[at]);
+}
+
 static void print_verdict(uint8_t number, const uint16_t report[GATE_REPORT])
 {
     if (number == GATE_OK)
-        printf("accepted %u %u, marks", (unsigned)report[GATE_NEED], (unsigned)report[GATE_COUNT]);
+        printf("accepted %u %u", (unsigned)report[GATE_NEED], (unsigned)report[GATE_COUNT]);
     else
-        printf("refused %u %u, marks", (unsigned)number, (unsigned)report[GATE_OFFSET]);
-    for (size_t at = 0; at < marks_length; at++)
-        printf(" %u", (unsigned)marks[at]);
+        print_refused(number, report[GATE_OFFSET]);
+    print_marks();
 }
 
 /* The answer of a step or a run. */
@@ -133,6 +144,43 @@ static void check(void)
     take_image(fields_length - next);
     const uint8_t number = gate_check(image, image_length, &limits, marks, marks_length, report);
     print_verdict(number, report);
+}
+
+/* Prints how a run with this budget, after a start with registers of 0 on a memory of zeros, ends. */
+static void print_run_within(uint32_t budget)
+{
+    uint16_t report[GATE_REPORT];
+    uint32_t steps[1];
+    uint64_t cycles[1];
+    memory_length = GATE_MEMORY_BYTES;
+    memset(memory, 0, memory_length);
+    memset(registers, 0, sizeof registers);
+    gate_start(image, image_length, &limits, marks, marks_length, memory, memory_length, registers, report);
+    print_answer(gate_run(image, image_length, &limits, memory, memory_length, registers, budget, steps, cycles));
+    printf(" after %" PRIu32, *steps);
+}
+
+static void work_out_turn(void)
+{
+    uint16_t offset[1];
+    uint32_t turn[1];
+    take_limits();
+    take_marks();
+    take_image(fields_length - next);
+    const uint8_t number = gate_turn(image, image_length, &limits, marks, marks_length, offset, turn);
+    if (number == GATE_OK)
+        printf("within %" PRIu32, *turn);
+    else if (number == GATE_NO_TURN)
+        printf("none");
+    else if (number == GATE_OVER)
+        printf("over");
+    else
+        print_refused(number, *offset);
+    print_marks();
+    if (number == GATE_OK) {
+        printf("; ");
+        print_run_within(*turn);
+    }
 }
 
 static int within(size_t address, struct gate_area area)
@@ -325,7 +373,7 @@ static void read_fields(const char *text, const char *end)
 static int replay(const char *line)
 {
     static const struct { const char *word; void (*answer)(void); } kinds[] = {
-        { " check ", check }, { " start ", start }, { " step ", step },
+        { " check ", check }, { " turn ", work_out_turn }, { " start ", start }, { " step ", step },
         { " run ", run }, { " record ", step_and_back }, { " back ", back },
     };
     const char *colon = strchr(line, ':');

@@ -1,5 +1,5 @@
-/* A loader in C: checks an image, lists it, starts it and runs it, and prints cycles, registers and the bytes that it stored. Then
- * it steps through one, and back.
+/* A loader in C: checks an image, works out its turn, lists it, starts it and runs it, and prints cycles, registers and the bytes
+ * that it stored. Then it steps through one, and back.
  *
  *     make
  *     gcc -Iinclude examples/loader.c target/staticlib/libgate_c.a -o loader
@@ -12,6 +12,7 @@
 
 #include "gate.h"
 
+/* The budget of a run where no turn is given. */
 enum { BUDGET = 100000 };
 
 /* The second grant is in data EEPROM; GATE_NO_AREA would be none. */
@@ -103,6 +104,20 @@ static void print_state(const uint32_t registers[GATE_REGISTERS])
     print_area(limits.second);
 }
 
+/* A budget for an accepted image: its turn, with which it finishes, if one is given. The marks stay as they are. */
+static uint32_t budget(const uint8_t *image, size_t image_length)
+{
+    uint16_t offset[1];
+    uint32_t turn[1];
+    const uint8_t number = gate_turn(image, image_length, &limits, marks, GATE_MARKS_ENOUGH, offset, turn);
+    if (number != GATE_OK) {
+        printf("  %s\n", gate_number_text(number));
+        return BUDGET;
+    }
+    printf("  the turn is %" PRIu32 "\n", turn[0]);
+    return turn[0];
+}
+
 static void load(const char *name, const uint8_t *image, size_t image_length)
 {
     uint32_t registers[GATE_REGISTERS] = {0};
@@ -117,8 +132,9 @@ static void load(const char *name, const uint8_t *image, size_t image_length)
         return;
     }
     printf("%s: accepted %u %u\n", name, (unsigned)report[GATE_NEED], (unsigned)report[GATE_COUNT]);
+    const uint32_t most = budget(image, image_length);
     list(image, image_length);
-    const uint8_t ending = gate_run(image, image_length, &limits, memory, sizeof memory, registers, BUDGET, steps, cycles);
+    const uint8_t ending = gate_run(image, image_length, &limits, memory, sizeof memory, registers, most, steps, cycles);
     printf("  %s after %" PRIu32 " steps and %" PRIu64 " cycles\n", gate_number_text(ending), steps[0], cycles[0]);
     print_state(registers);
 }

@@ -1,4 +1,5 @@
-/* The gate loader for C: check an image, start it, step it, step back, run it, read its layout, and decode an instruction.
+/* The gate loader for C: check an image, work out its turn, start it, step it, step back, run it, read its layout, and decode an
+ * instruction.
  *
  * Every function is total: whatever the bytes, numbers and lengths, it returns, and what it leaves in each cell is said below.
  * What C must see to, as for any pointer: each pointer is not null (where a length is 0 any address that is not null will do),
@@ -20,10 +21,10 @@
  * caller's stack. Calls may go on at the same time, in threads or in an interrupt, if no cell that one of them writes is an
  * argument of another; an image and limits, which are only read, may be shared.
  *
- * gate_check and gate_start take less than 82 KiB of the caller's stack, whatever the image (83,024 bytes at most were measured): a
- * check's arrays, of a few numbers about each code byte, have 81,920 bytes. No other function takes 1 KiB (992 bytes measured). A
- * call in which the dynamic linker binds memcpy or memset, as the first one may be, takes what that takes besides, some 3 KiB: as the
- * first call of a program gate_start took 85,944 bytes and gate_layout 3,448.
+ * gate_check, gate_turn and gate_start take less than 82 KiB of the caller's stack, whatever the image (83,312 bytes at most were
+ * measured, of gate_turn): a check's arrays, of a few numbers about each code byte, have 81,920 bytes. No other function takes 1 KiB
+ * (992 bytes measured). A call in which the dynamic linker binds memcpy or memset, as the first one may be, takes what that takes
+ * besides, some 3 KiB: as the first call of a program gate_turn took 86,200 bytes and gate_layout 3,448.
  *
  * The library is for x86-64 with the System V calling convention. A slice is passed as two arguments, the address of its first cell
  * and its length, a number of cells and not of bytes; an array of fixed size, or a struct, is passed as its address alone. */
@@ -39,13 +40,13 @@ extern "C" {
 
 /* The version of the library that this header is of. gate_library_version answers that of the archive. */
 #define GATE_LIBRARY_MAJOR 0u
-#define GATE_LIBRARY_MINOR 2u
+#define GATE_LIBRARY_MINOR 3u
 #define GATE_LIBRARY_PATCH 0u
-#define GATE_LIBRARY_VERSION "0.2.0"
+#define GATE_LIBRARY_VERSION "0.3.0"
 
-/* Answers of every function but gate_library_version: 0, a refusal, a trap, or how a step or a run ended. */
+/* Answers of every function but gate_library_version: 0, a refusal, a trap, how a step or a run ended, or why no turn is given. */
 enum gate_number {
-    GATE_OK = 0,                    /* accepted, started, made, gone back, decoded */
+    GATE_OK = 0,                    /* accepted, turn given, started, made, gone back, decoded */
     GATE_LIMITS = 1,                /* limits break a rule of struct gate_limits */
     GATE_NOT_SLU = 2,               /* under 8 bytes, or not SLU */
     GATE_UNKNOWN_VERSION = 3,       /* version neither 0001 nor 0002 */
@@ -70,7 +71,9 @@ enum gate_number {
     GATE_TRAP_STORE = 25,           /* a direct store not wholly in a grant, or an SP store outside SP + 1 to stack high */
     GATE_RECORD = 26,               /* a record of more than two bytes, or with one at an address above 7FFF */
     GATE_FINISHED = 64,             /* a step that began at PC 0; a run that reached it */
-    GATE_SPENT = 65                 /* a run that used up its budget, PC not 0 */
+    GATE_SPENT = 65,                /* a run that used up its budget, PC not 0 */
+    GATE_NO_TURN = 66,              /* accepted; some jump goes to its own or a lower address, so there is no turn */
+    GATE_OVER = 67                  /* accepted; the turn is above 4,294,967,295 */
 };
 
 /* The text of a number, without the offset that a check reports beside it. 18 is of encoding, which no function here does. */
@@ -104,6 +107,8 @@ static inline const char *gate_number_text(uint8_t number)
     case GATE_RECORD: return "a record of more than two bytes, or with one at an address above 7FFF";
     case GATE_FINISHED: return "finished";
     case GATE_SPENT: return "the budget is used up";
+    case GATE_NO_TURN: return "no turn: a jump goes to its own or a lower address";
+    case GATE_OVER: return "the turn is above 4,294,967,295";
     default: return "unknown number";
     }
 }
@@ -180,6 +185,22 @@ uint8_t gate_check(const uint8_t *image, size_t image_length,
                    const struct gate_limits *limits,
                    uint16_t *marks, size_t marks_length,
                    uint16_t report[GATE_REPORT]);
+
+/* Works out the turn of an image, after the whole check. The answer is a refusal from 1 to 16, exactly as gate_check's; else the image
+ * is accepted, and the answer is 0, GATE_NO_TURN or GATE_OVER.
+ * offset: the refusal's, as gate_check reports it; 0 for any other answer. turn: main's turn, 1 to 4,294,967,295, where the answer is
+ * 0; else 0. marks are as gate_check leaves them.
+ *   GATE_NO_TURN: some jump goes to its own address, that of its first byte, or to a lower one. Every jump of every routine counts, also
+ *   of a routine that nobody calls, BTJT and BTJF too, and JRF, though it never jumps; CALL and CALLR are no jumps.
+ *   0 or GATE_OVER: there is no such jump. A routine's turn is the sum over its instructions of 1, plus the callee's turn at calls.
+ *   GATE_OVER: main's is above 4,294,967,295.
+ * With no such jump the routine finishes within main's turn of steps, started with any A, X, Y, CC and memory: a gate_run with a budget
+ * of at least the turn answers GATE_FINISHED after at most so many steps. Where it is over, so do runs one after another whose budgets
+ * add up to it. */
+uint8_t gate_turn(const uint8_t *image, size_t image_length,
+                  const struct gate_limits *limits,
+                  uint16_t *marks, size_t marks_length,
+                  uint16_t offset[1], uint32_t turn[1]);
 
 /* Starts a routine: 17, then the whole check. Accepted, 00 is written to the top two stack bytes, and registers are A, X, Y and
  * CC as they were given (their low 8 or 16 bits), SP two below stack high, and PC at main. Refused, no memory is written and all

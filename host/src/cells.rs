@@ -6,12 +6,16 @@
 use crate::types::{Limits, ROUTINES, TEXT_BYTES};
 use std::mem::size_of;
 
-/// The answer of a step that was made or gone back over, a check that accepted, bytes that were decoded.
+/// The answer of a step that was made or gone back over, a check that accepted, a turn that is given, bytes that were decoded.
 pub const OK: u8 = 0;
 /// The answer of a step that began at PC 0, and of a run that reached it.
 pub const FINISHED: u8 = 64;
 /// The answer of a run that used up its budget.
 pub const SPENT: u8 = 65;
+/// The answer where there is no turn, since some jump goes to its own or a lower address.
+pub const NO_TURN: u8 = 66;
+/// The answer where the turn is above 4,294,967,295.
+pub const OVER: u8 = 67;
 
 /// The cells of a report: offset, need, count.
 pub type ReportCells = [u16; 3];
@@ -69,6 +73,15 @@ mod c {
             marks: *mut u16,
             marks_length: usize,
             report: *mut ReportCells,
+        ) -> u8;
+        pub fn gate_turn(
+            image: *const u8,
+            image_length: usize,
+            limits: *const Limits,
+            marks: *mut u16,
+            marks_length: usize,
+            offset: *mut [u16; 1],
+            turn: *mut [u32; 1],
         ) -> u8;
         pub fn gate_start(
             image: *const u8,
@@ -161,6 +174,23 @@ pub fn check(image: &[u8], limits: &Limits, marks: &mut [u16], report: &mut Repo
     // aligned, and leads to as many cells as the length beside it or its array type says. `Limits` is `repr(C)`: six `u16` in the
     // order of gate.h's struct, with nothing between them. What is written comes from `&mut`, so it lies in no other argument.
     unsafe { c::gate_check(image.as_ptr(), image.len(), limits, marks.as_mut_ptr(), marks.len(), report) }
+}
+
+/// Works out the turn of an image, as `gate_turn` does.
+///
+/// ```
+/// # use gate_host::cells;
+/// # use gate_host::{Area, Limits};
+/// # let area = |low, high| Area { low, high };
+/// # let limits = Limits { grant: area(0x0000, 0x00FF), stack: area(0x0300, 0x03FF), second: Area::NONE };
+/// # let image = b"SLU\x00\x01\x80\x00\x01\x00\x05\xA6\x05\xB7\x10\x81";
+/// let (mut marks, mut offset, mut turn) = ([0; 5], [0], [0]);
+/// assert_eq!(cells::turn(image, &limits, &mut marks, &mut offset, &mut turn), cells::OK);
+/// assert_eq!((marks, offset, turn), ([1, 0, 1, 0, 1], [0], [3]));
+/// ```
+pub fn turn(image: &[u8], limits: &Limits, marks: &mut [u16], offset: &mut [u16; 1], turn: &mut [u32; 1]) -> u8 {
+    // SAFETY: as for `check`: every pointer comes with its length from one reference, and what is written from `&mut`.
+    unsafe { c::gate_turn(image.as_ptr(), image.len(), limits, marks.as_mut_ptr(), marks.len(), offset, turn) }
 }
 
 /// Starts a routine, as `gate_start` does.

@@ -71,6 +71,35 @@ pub fn check(image: &[u8], limits: &Limits, marks: &mut [u16]) -> Result<Accepte
     verdict(number, report)
 }
 
+/// Works out the turn of an image, which is checked as [`check`] does, with the same refusals and marks.
+///
+/// A routine's turn is the sum over its instructions of 1, plus the callee's turn at calls; the image's is main's. There is none if
+/// some jump, of any routine, goes to its own or a lower address: JRF counts as the other jumps do, and a call is no jump.
+///
+/// ```
+/// # use gate_host::{Area, Limits, Registers, Turn, MARKS_ENOUGH, MEMORY_BYTES};
+/// # let area = |low, high| Area { low, high };
+/// # let limits = Limits { grant: area(0x0000, 0x00FF), stack: area(0x0300, 0x03FF), second: Area::NONE };
+/// // Two routines: PUSH A, POP A, RET; and main, which calls it.
+/// let image = b"SLU\x00\x02\x80\x00\x02\x00\x03\x00\x04\x88\x84\x81\xCD\x80\x00\x81";
+/// let mut marks = [0; MARKS_ENOUGH];
+/// assert_eq!(gate_host::turn(image, &limits, &mut marks)?, Turn::Within(5));
+///
+/// let (mut memory, mut registers) = (vec![0; MEMORY_BYTES], Registers::default());
+/// gate_host::start(image, &limits, &mut marks, &mut memory, &mut registers)?;
+/// assert_eq!(gate_host::run(image, &limits, &mut memory, &mut registers, 5)?.finished(), Ok(true));
+/// # Ok::<(), Box<dyn std::error::Error>>(())
+/// ```
+pub fn turn(image: &[u8], limits: &Limits, marks: &mut [u16]) -> Result<Turn, Refused> {
+    let (mut offset, mut turn) = ([0], [0]);
+    match cells::turn(image, limits, marks, &mut offset, &mut turn) {
+        cells::OK => Ok(Turn::Within(turn[0])),
+        cells::NO_TURN => Ok(Turn::None),
+        cells::OVER => Ok(Turn::Over),
+        number => Err(Refused { refusal: refusal(number), offset: offset[0] }),
+    }
+}
+
 /// Starts a routine: the memory's size, then the whole check.
 ///
 /// Accepted, 00 is written to the top two stack bytes, and SP and PC are set; A, X, Y and CC stay. Refused, no memory is written

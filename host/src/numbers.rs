@@ -40,6 +40,8 @@ pub fn number_text(number: u8) -> &'static str {
         26 => "a record of more than two bytes, or with one at an address above 7FFF",
         64 => "finished",
         65 => "the budget is used up",
+        66 => "no turn: a jump goes to its own or a lower address",
+        67 => "the turn is above 4,294,967,295",
         _ => "unknown number",
     }
 }

@@ -235,6 +235,17 @@ pub struct Refused {
     pub offset: u16,
 }
 
+/// The turn of an image that is accepted: the steps within which it finishes, whatever A, X, Y, CC and memory it is started with.
+#[derive(Clone, Copy, Debug, PartialEq, Eq)]
+pub enum Turn {
+    /// There is none: some jump goes to its own or a lower address.
+    None,
+    /// It is above 4,294,967,295. Runs one after another whose budgets add up to it finish.
+    Over,
+    /// It is this number, from 1 on. A run with at least so much budget finishes.
+    Within(u32),
+}
+
 impl From<Refusal> for Refused {
     fn from(refusal: Refusal) -> Refused {
         Refused { refusal, offset: 0 }

@@ -47,6 +47,9 @@ fn all_others_write_their_cells_alone() {
     let mut report = Guarded::new([0; 3]);
     assert_eq!(cells::check(IMAGE, &LIMITS, &mut marks.cells, &mut report.cells), cells::OK);
     assert!(marks.is_whole() && report.is_whole(), "check");
+    let (mut offset, mut turn) = (Guarded::new([0]), Guarded::new([0]));
+    assert_eq!(cells::turn(IMAGE, &LIMITS, &mut marks.cells, &mut offset.cells, &mut turn.cells), cells::OK);
+    assert!(marks.is_whole() && offset.is_whole() && turn.is_whole(), "turn");
     let mut layout = Guarded::new(LayoutCells::default());
     assert_eq!(cells::layout(IMAGE, &mut layout.cells), cells::OK);
     assert!(layout.is_whole(), "layout");

@@ -2,7 +2,9 @@
 //! of their own, get what a single thread gets.
 
 use gate_host::cells::{self, LayoutCells};
-use gate_host::{Accepted, Area, Decoded, History, Limits, Refusal, Refused, Registers, Run, Step, MARKS_ENOUGH, MEMORY_BYTES};
+use gate_host::{
+    Accepted, Area, Decoded, History, Limits, Refusal, Refused, Registers, Run, Step, Turn, MARKS_ENOUGH, MEMORY_BYTES,
+};
 use std::sync::Barrier;
 use std::thread;
 
@@ -44,6 +46,7 @@ type State = (Registers, Vec<u8>);
 struct Outcome {
     layout: (u8, LayoutCells),
     check: (Result<Accepted, Refused>, Vec<u16>),
+    turn: (Result<Turn, Refused>, Vec<u16>),
     start: (Result<Accepted, Refused>, State),
     steps: Vec<(Result<Step, Refusal>, State)>,
     back: State,
@@ -58,6 +61,7 @@ fn outcome(image: &[u8], limits: &Limits) -> Outcome {
     let (mut marks, mut memory, mut registers) = (vec![0; MARKS_ENOUGH], vec![0; MEMORY_BYTES], Registers::default());
     let state = |registers: &Registers, memory: &[u8]| (*registers, [&memory[..0x0400], &memory[0x4000..0x4020]].concat());
     let check = (gate_host::check(image, limits, &mut marks), marks.clone());
+    let turn = (gate_host::turn(image, limits, &mut marks), marks.clone());
     let start = gate_host::start(image, limits, &mut marks, &mut memory, &mut registers);
     let start = (start, state(&registers, &memory));
     let mut history = History::new();
@@ -67,7 +71,7 @@ fn outcome(image: &[u8], limits: &Limits) -> Outcome {
     let back = state(&registers, &memory);
     let run = (gate_host::run(image, limits, &mut memory, &mut registers, 2_000), state(&registers, &memory));
     let texts = (0..image.len()).map(|at| gate_host::decode(&image[at..], 0x8000)).collect();
-    Outcome { layout, check, start, steps, back, run, texts }
+    Outcome { layout, check, turn, start, steps, back, run, texts }
 }
 
 #[test]

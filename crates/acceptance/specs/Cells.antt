@@ -1,6 +1,6 @@
 -- The cells that the check by cells goes by, for the instructions of a routine of an image. Nobody has to believe them: they are
 -- tied to the rules by theorems.
-use Prim.Native.Nat.{ℕ, zero, suc, _+_, _-_, _<_}
+use Prim.Native.Nat.{ℕ, _+_, _-_, _<_}
 use mathlib.Core.Path.{_≡_}
 use mathlib.Core.Bool.{true, cond}
 use mathlib.Core.List.{List}
@@ -17,6 +17,7 @@ use Rattle.image.specs.Image.{baseOf, startOf, endOf}
 use Rattle.image.specs.Access.{granted}
 use Rattle.code.specs.Depth.{popped, pushed, falls}
 use Rattle.code.specs.Code.{instructionAt, Start}
+use Rattle.rules.specs.Paths.{callee}
 use Rattle.control_flow.specs.Routine as cells
 
 -- 1 + the offset that control falls to, 0 where it does not fall
@@ -41,15 +42,6 @@ storeCell limits Nowhere = 0
 storeCell limits (Direct a w) = cond (granted limits a (bytesWide w)) 0 256
 storeCell limits (OnStack f w) = cond (eqb f 0) 256 (f + (bytesWide w - 1))
 storeCell limits (Pushed w) = 0
-
--- the routine that begins at an offset, of n routines from j on; j + n where none does
-unfoldable pub beginning : List ℕ → ℕ → ℕ → ℕ → ℕ
-beginning image offset zero j = j
-beginning image offset (suc n) j = cond (eqb (startOf image j) offset) j (beginning image offset n (j + 1))
-
--- the callee of a call from routine r; r where the call goes to the first byte of no routine earlier in the table
-unfoldable pub callee : List ℕ → ℕ → ℕ → ℕ
-callee image r address = cond (ltb address (baseOf image)) r (beginning image (address - baseOf image) r 0)
 
 -- 1 + the callee's place, 255 where it is no earlier routine
 unfoldable pub calleeCell : List ℕ → ℕ → ℕ → ℕ

@@ -3,6 +3,7 @@ mod marks;
 mod sweep;
 
 pub use rules::Verdict;
+pub use sweep::routine_at;
 ghost use mathlib.Core.Path.{_≡_};
 ghost use Prim.Native.Nat.{ℕ, _≤_};
 ghost use lib.ListN.{length};

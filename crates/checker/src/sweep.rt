@@ -32,10 +32,12 @@ pub struct Sweep {
 
 // Where a routine ends: where the next one begins, or with the code.
 fn end_of(layout: Layout, begins: &[u16; 32], index: usize) -> usize
-    requires { ⌜ (index < layout .count) × (layout .count ≤ 32) ⌝ }
     ensures { λ r. ⌜ ((image : List ℕ) (limits : Limits) → validated image limits ≡ Valid layout →
-        Begins image (now (begins .entry)) (layout .count) → r ≡ endOf image index) ⌝ }
+        Begins image (now (begins .entry)) (layout .count) → index < layout .count → r ≡ endOf image index) ⌝ }
 {
+    if 31 < index {
+        return layout.size;
+    }
     if index + 1 < layout.count {
         begin_at(begins, index + 1)
     } else {
@@ -43,17 +45,16 @@ fn end_of(layout: Layout, begins: &[u16; 32], index: usize) -> usize
     }
 }
 
-// The next routine.
-fn routine_at(
+// The routine at an index, by where it begins. Past the last one its end is left free.
+pub fn routine_at(
     limits: Limits,
     layout: Layout,
     begins: &[u16; 32],
     index: usize,
     start: usize,
 ) -> Routine
-    requires { ⌜ (index < layout .count) × (layout .count ≤ 32) ⌝ }
     ensures { λ r. ⌜ ((image : List ℕ) → validated image limits ≡ Valid layout → Begins image (now (begins .entry)) (layout .count) →
-        start ≡ startOf image index → RoutineOf image r) ⌝ }
+        index < layout .count → start ≡ startOf image index → RoutineOf image r) ⌝ }
     ensures { λ r. ⌜ (r .index ≡ index) × (r .start ≡ start) × (r .limits ≡ limits) ⌝ }
 {
     let end = end_of(layout, begins, index);

@@ -5,3 +5,4 @@ pub mod Parts
 pub mod Starts
 pub mod StartList
 pub mod Instructions
+pub mod Remaining

@@ -5,7 +5,8 @@ use mathlib.Core.List.{List}
 use native.Mathlib.Omega.{arith}
 use borrow.Author.Tests.{eq-eqb, ne-eqb, lt-ltb, le-ltb}
 use Rattle.image.specs.Image.{baseOf, startOf}
-use Rattle.acceptance.specs.Cells.{beginning, callee, calleeCell}
+use Rattle.rules.specs.Paths.{beginning, callee}
+use Rattle.acceptance.specs.Cells.{calleeCell}
 
 -- the next routine, and none left
 module _ (image : List ℕ) (offset r j start : ℕ) (h : j < r) (e : start ≡ startOf image j) where

@@ -46,7 +46,7 @@ start-below {image} {r} routine s =
     omega (arith, start-high image (r .index) (omega (arith, routine .some, routine .start-is, routine .end-is)) s, routine .end-is)
 
 -- what the decoder's tag says where it finds none
-abbrev NoInstruction : Decoded → Type 0
+abbrev pub NoInstruction : Decoded → Type 0
 NoInstruction d = types.Run.OneOf (1 ∷ 2 ∷ []) (denote.Enum.Declared.tagOf Rattle.stm8.proofs.Decoded.the-type d)
 
 pub number-some : (d : Decoded) {number : ℕ} → NoInstruction d → number ≡ decodingNumber d → 1 ≤ number

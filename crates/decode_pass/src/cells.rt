@@ -5,7 +5,8 @@ ghost use Prim.Native.Nat.{ℕ, _+_, _≤_};
 ghost use Rattle.stm8.specs.Effects.{relative as relativeTo};
 ghost use Rattle.image.specs.Image.{baseOf};
 ghost use Rattle.image.specs.Lengths.{Begins};
-ghost use Rattle.acceptance.specs.Cells.{targetCell, storeCell, callee as calleeOf, calleeCell};
+ghost use Rattle.rules.specs.Paths.{callee as calleeOf};
+ghost use Rattle.acceptance.specs.Cells.{targetCell, storeCell, calleeCell};
 ghost use Rattle.decode_pass.specs.Pass.{RoutineOf};
 ghost use Rattle.decode_pass.specs.Internal.{waysOn, rowOf};
 use crate::Routine;
@@ -74,11 +75,14 @@ fn wide(x: u16) -> usize
     x as usize
 }
 
-// The callee of a call from routine r; r where the call goes to no earlier routine's first byte.
-fn callee(begins: &[u16; 32], base: u16, r: usize, address: usize) -> usize
-    requires { ⌜ r ≤ 32 ⌝ }
-    ensures { λ x. ⌜ ((image : List ℕ) → base ≡ baseOf image → Begins image (now (begins .entry)) r → x ≡ calleeOf image r address) ⌝ }
+// The callee of a call from routine r; r where the call goes to no earlier routine's first byte. Where r is above 32 the answer is left free.
+pub fn callee(begins: &[u16; 32], base: u16, r: usize, address: usize) -> usize
+    ensures { λ x. ⌜ ((image : List ℕ) → r ≤ 32 → base ≡ baseOf image → Begins image (now (begins .entry)) r → x ≡ calleeOf image r address) ⌝ }
+    ensures { λ x. ⌜ x ≤ r ⌝ }
 {
+    if 32 < r {
+        return r;
+    }
     let base = base as usize;
     if address < base {
         return r;

@@ -3,6 +3,7 @@
 mod cells;
 mod decoding;
 
+pub use cells::callee;
 ghost use mathlib.Core.List.{List};
 ghost use Prim.Native.Nat.{ℕ};
 ghost use Rattle.decode_pass.specs.Pass.{Given, NoStarts, RoutineDecoded};

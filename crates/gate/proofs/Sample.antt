@@ -31,6 +31,7 @@ use Rattle.acceptance.specs.Cells as Cells
 use Rattle.acceptance.specs.Starts as Starts
 use Rattle.acceptance.specs.Exploration as Exploration
 use Rattle.acceptance.specs.Check as Check
+use Rattle.rules.specs.Paths as Paths
 use Rattle.rules.specs.declared.Verdict.the-variants.{Accepted}
 use Rattle.gate.specs.Start.{started}
 use Rattle.gate.specs.History.{Request, pointStarted, history}
@@ -58,8 +59,8 @@ unfolding Check.checked Folds.firstIn Folds.total Checks.first Checks.both Check
     Validation.secondCheck Validation.limitsCheck Validation.markCheck Validation.versionCheck Validation.lengthCheck Validation.lengthsCheck
     Validation.headerCheck Validation.layoutCheck Validation.refusal Validation.validated Set.decodedFor Code.decodedAt
     Depth.popped Depth.pushed Routine.jumpNumber
-    Routine.depthNumber Routine.countFrom Measuring.callUse Measuring.greatestUse Cells.targetCell Cells.storeCell Cells.beginning
-    Cells.callee Cells.calleeCell Instructions.startsFrom Instructions.startsOf Starts.listed Exploration.exploreFrom Exploration.mostMoved
+    Routine.depthNumber Routine.countFrom Measuring.callUse Measuring.greatestUse Cells.targetCell Cells.storeCell Paths.beginning
+    Paths.callee Cells.calleeCell Instructions.startsFrom Instructions.startsOf Starts.listed Exploration.exploreFrom Exploration.mostMoved
     Exploration.biasFor Exploration.explored Check.firstAt Check.biasOf Check.exploredIn Check.flowRefusing Check.routineRefusing
     Check.routinesFrom Check.swept Check.codeChecked
 sample-accepted = refl
@@ -69,7 +70,7 @@ abbrev bytes : List ℕ → Bool
 bytes [] = true
 bytes (b ∷ rest) = cond (ltb b 256) (bytes rest) false
 
-bytes-below : (s : List ℕ) → bytes s ≡ true → Bytes s
+pub bytes-below : (s : List ℕ) → bytes s ≡ true → Bytes s
 bytes-below [] e k = omega arith
 bytes-below (b ∷ rest) e zero = by-cond (ltb b 256) (λ t u. ltb-true b 256 t) (λ t u. absurd (false≢true u)) e
 bytes-below (b ∷ rest) e (suc k) = by-cond (ltb b 256) (λ t u. bytes-below rest u k) (λ t u. absurd (false≢true u)) e

@@ -1,4 +1,4 @@
-// Starting a gate routine; check, step, step back and run beside it.
+// Starting a gate routine; check, turn, step, step back and run beside it.
 ghost use mathlib.Core.Path.{_≡_};
 ghost use Prim.Native.Nat.{_+_, _≤_, _<_};
 ghost use lib.ListN.{length};
@@ -29,6 +29,8 @@ pub use records::RecordedStep;
 pub use records::SteppedBack;
 pub use records::step;
 pub use records::step_back;
+pub use turns::TurnAnswer;
+pub use turns::turn;
 
 // What starting answers: the check's verdict, or 17, and the registers to go on from, all 0 where it is refused.
 pub struct Started {

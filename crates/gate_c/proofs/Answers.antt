@@ -20,6 +20,10 @@ use Rattle.records.specs.Back.{steppedBack}
 use Rattle.records.proofs.GivingBack.{registers-back}
 use Rattle.records.specs.declared.Record.{Record}
 use Rattle.records.specs.declared.SteppedBack.{SteppedBack}
+use Rattle.turns.specs.Turn.{turned}
+use Rattle.turns.specs.Values.{valuesOf as turnValues}
+use Rattle.turns.specs.declared.TurnAnswer.{TurnAnswer}
+use Rattle.turns.specs.declared.TurnValues.{TurnValues}
 use Rattle.gate_c.specs.Cells.{reportCells, registersIn, registerCells, startedBy, startedCells, steppedCells, ranCells}
 use Rattle.gate_c.specs.Cells.{recordIn, recordCells, backCells}
 
@@ -28,6 +32,13 @@ pub checked-by : (image marks marks′ : List ℕ) (limits limits′ : Limits) (
     (number ≡ valuesOf (checked image limits′ marks .0) .number) ×
     ((report ≡ reportCells (checked image limits′ marks .0)) × (marks′ ≡ checked image limits′ marks .1))
 checked-by image marks marks′ limits limits′ v number report same c n r = rw (← same, c) (n, (r, refl))
+
+pub turned-by : (image marks marks′ : List ℕ) (limits limits′ : Limits) (answer : TurnAnswer) (values : TurnValues) →
+    limits ≡ limits′ → turned image limits marks ≡ (answer, marks′) → values ≡ turnValues answer →
+    let t = turned image limits′ marks in
+    (values .number ≡ turnValues (t .0) .number) ×
+    ((values .offset ∷ [] ≡ turnValues (t .0) .offset ∷ []) × ((values .turn ∷ [] ≡ turnValues (t .0) .turn ∷ []) × (marks′ ≡ t .1)))
+turned-by image marks marks′ limits limits′ answer values same t v = rw (← same, t, v) (refl, (refl, (refl, refl)))
 
 -- registers of their widths; PC is read by all bits of its cell
 pub record Fitting (r : Registers) : Type 0 where

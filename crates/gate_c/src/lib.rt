@@ -8,6 +8,8 @@ ghost use Rattle.machine.specs.Run.{ran};
 ghost use Rattle.records.specs.Recording.{twoCells, recorded};
 ghost use Rattle.stm8.specs.Decoding.{decoded, decodingNumber};
 ghost use Rattle.image.specs.Validation.{validationNumber};
+ghost use Rattle.turns.specs.Turn.{turned};
+ghost use Rattle.turns.specs.Values.{valuesOf as turnValues};
 ghost use Rattle.layout_cells.specs.Cells.{laidOut, layoutCells};
 ghost use mathlib.Core.List.{[], _∷_};
 ghost use Rattle.gate_c.specs.Cells.{limitsIn, registersIn, registerCells, reportCells, recordIn, recordCells, backCells};
@@ -26,10 +28,12 @@ use gate::start;
 use gate::step;
 use gate::step_back;
 use gate::step_number;
+use gate::turn;
 use layout_cells::layout_of;
 use rules::verdict_number;
 use stm8::Decoded;
 use timing::decode_timed_for;
+use turns::values_of;
 
 fn limits_in(cells: &[u16; 6]) -> Limits
     ensures { λ r. ⌜ r ≡ limitsIn (now (cells .entry)) ⌝ }
@@ -336,10 +340,34 @@ pub extern "C" fn gate_layout(image: &[u8], cells: &mut [u16; 37]) -> u8
     layout_of(image, cells)
 }
 
-// The version of this library, 0.2.0: major, minor and patch, a byte each.
+// The turn of an image under limits, in numbers: what kind of answer it is, the refusal's offset, and the turn.
+#[no_mangle]
+pub extern "C" fn gate_turn(
+    image: &[u8],
+    limits: &[u16; 6],
+    marks: &mut [u16],
+    offset: &mut [u16; 1],
+    most: &mut [u32; 1],
+) -> u8
+    ensures { λ r. ⌜ r ≡ turnValues (turned (now (image .entry)) (limitsIn (now (limits .entry))) (now (marks .entry)) .0) .number ⌝ }
+    ensures { λ _. ⌜ now (offset .exit) ≡
+        turnValues (turned (now (image .entry)) (limitsIn (now (limits .entry))) (now (marks .entry)) .0) .offset ∷ [] ⌝ }
+    ensures { λ _. ⌜ now (most .exit) ≡
+        turnValues (turned (now (image .entry)) (limitsIn (now (limits .entry))) (now (marks .entry)) .0) .turn ∷ [] ⌝ }
+    ensures { λ _. ⌜ now (marks .exit) ≡
+        turned (now (image .entry)) (limitsIn (now (limits .entry))) (now (marks .entry)) .1 ⌝ }
+{
+    let answer = turn(image, limits_in(limits), marks);
+    let values = values_of(answer);
+    *offset = [values.offset];
+    *most = [values.turn];
+    values.number
+}
+
+// The version of this library, 0.3.0: major, minor and patch, a byte each.
 #[no_mangle]
 pub extern "C" fn gate_library_version() -> u32
-    ensures { λ r. ⌜ r ≡ 0x000200 ⌝ }
+    ensures { λ r. ⌜ r ≡ 0x000300 ⌝ }
 {
-    0x000200
+    0x000300
 }

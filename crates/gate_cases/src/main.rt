@@ -1,5 +1,5 @@
-// Replays the checks and starts of the conformance corpus (conformance/README.md has the fields of a line and the forms of an answer): prints each line
-// of standard input anew, with what checking, or starting and running to the end, comes to. No contract can speak of what is printed.
+// Replays the checks, starts and turns of the conformance corpus (conformance/README.md has the fields of a line and the forms of an answer): prints
+// each line of standard input anew, with what checking, starting and running to the end, or the turn comes to. No contract can speak of what is printed.
 ghost use mathlib.Core.Path.{_≡_};
 ghost use mathlib.Core.Bool.{false, cond};
 ghost use Prim.Native.Nat.{_/_, _%_, _≤_, _<_};
@@ -9,8 +9,10 @@ use bytes::scan::find;
 use gate::Area;
 use gate::Limits;
 use gate::Registers;
+use gate::RunAnswer;
 use gate::Started;
 use gate::StepAnswer;
+use gate::TurnAnswer;
 use gate::Verdict;
 use hexadecimal::parse;
 use image::limits_of;
@@ -287,13 +289,60 @@ fn check_case(image: &[u8], limits: Limits, marks: &mut [u16]) {
     print_marks(marks);
 }
 
-// The answer of a case. One that is cut short has none.
-fn print_answer(starts: bool, case: &[u8], marks: &mut [u16]) {
+fn print_turn(answer: TurnAnswer) {
+    match answer {
+        TurnAnswer::Refused(number, offset) => print_figures(b"refused ", number as u16, offset),
+        TurnAnswer::NoTurn => print(b"none"),
+        TurnAnswer::Over => print(b"over"),
+        TurnAnswer::Within(most) => print_number(b"within ", most as u64),
+    }
+}
+
+fn print_ran(answer: RunAnswer, steps: u32) {
+    match answer {
+        RunAnswer::Finished => print(b"finished"),
+        RunAnswer::Spent => print(b"spent"),
+        RunAnswer::Trap(number) => print_number(b"trap ", number as u64),
+        RunAnswer::Refused(number) => print_number(b"refused ", number as u64),
+    }
+    print_number(b" after ", steps as u64);
+}
+
+// A start with zeros on a memory of zeros, and a run with so many steps.
+fn print_run_within(image: &[u8], limits: Limits, marks: &mut [u16], most: u32) {
+    let mut memory = [0u8; 32768];
+    let started = gate::start(image, limits, marks, &mut memory, 0, 0, 0, 0);
+    let timed = gate::run(image, limits, started.registers, &mut memory, most);
+    let ran = timed.ran;
+    let answer = ran.answer;
+    print(b"; ");
+    print_ran(answer, ran.steps);
+}
+
+// What a turn is, and a run within it.
+fn turn_case(image: &[u8], limits: Limits, marks: &mut [u16]) {
+    let answer = gate::turn(image, limits, marks);
+    print_turn(answer);
+    print_marks(marks);
+    match answer {
+        TurnAnswer::Refused(_, _) => (),
+        TurnAnswer::NoTurn => (),
+        TurnAnswer::Over => (),
+        TurnAnswer::Within(most) => print_run_within(image, limits, marks, most),
+    }
+}
+
+// The answer of a case by its kind's first letter. One that is cut short has none.
+fn print_answer(kind: u8, case: &[u8], marks: &mut [u16]) {
     if case.len() < 13 {
         return;
     }
-    if !starts {
+    if kind == b'c' {
         check_case(&case[13..], limits_of(case), marks);
+        return;
+    }
+    if kind == b't' {
+        turn_case(&case[13..], limits_of(case), marks);
         return;
     }
     if case.len() < 21 {
@@ -315,12 +364,12 @@ fn print_answer(starts: bool, case: &[u8], marks: &mut [u16]) {
 
 // The case of a line's kind and digits, from the colon on.
 fn case(text: &[u8]) {
-    let mut bytes = [0u8; 128];
+    let mut bytes = [0u8; 512];
     let mut marks = [9u16; 256];
-    let starts = byte_at(text, 2) == b's';
+    let kind = byte_at(text, 2);
     let n = parse(text, &mut bytes);
     let cells = byte_at(&bytes, 12) as usize;
-    print_answer(starts, &bytes[..n], &mut marks[..cells]);
+    print_answer(kind, &bytes[..n], &mut marks[..cells]);
 }
 
 // The line of a case anew: up to its answer as it stands, then the answer that it gets here.

@@ -1,10 +1,11 @@
 -- Where control goes from the instructions of a routine, which of them are reached, and the depths of the paths to them. Offsets count from the
 -- first code byte.
-use Prim.Native.Nat.{ℕ, _+_, _<_}
+use Prim.Native.Nat.{ℕ, zero, suc, _+_, _-_, _<_}
 use mathlib.Core.Path.{_≡_}
 use mathlib.Core.Option.{some}
-use mathlib.Core.Bool.{true}
+use mathlib.Core.Bool.{true, cond}
 use mathlib.Core.List.{List}
+use lib.Dec.{eqb, ltb}
 use Rattle.stm8.specs.Effects.{jumpTarget, effect}
 use Rattle.stm8.specs.declared.Instruction.{Instruction}
 use Rattle.stm8.specs.declared.Decoded.the-variants.{Found}
@@ -16,6 +17,16 @@ use Rattle.code.specs.Depth.{popped, pushed, falls}
 pub record Callee (image : List ℕ) (r address callee : ℕ) : Type 0 where
   pub earlier : callee < r
   pub target : address ≡ baseOf image + startOf image callee
+
+-- The same as a function, which the theorems of Callees.antt are about. The routine that begins at an offset, of n routines from j on; j + n where none
+-- does:
+unfoldable pub beginning : List ℕ → ℕ → ℕ → ℕ → ℕ
+beginning image offset zero j = j
+beginning image offset (suc n) j = cond (eqb (startOf image j) offset) j (beginning image offset n (j + 1))
+
+-- so the callee of a call from routine r; r where the call goes to the first byte of no routine earlier in the table
+unfoldable pub callee : List ℕ → ℕ → ℕ → ℕ
+callee image r address = cond (ltb address (baseOf image)) r (beginning image (address - baseOf image) r 0)
 
 -- control goes from an offset of routine r to another one: it falls, as only JRA and RET do not, or it jumps
 pub data Goes (image : List ℕ) (r o to : ℕ) : Type 0 where

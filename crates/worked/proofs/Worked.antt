@@ -22,6 +22,7 @@ use Rattle.code.specs.Code as Code
 use Rattle.code.specs.Set as Set
 use Rattle.control_flow.specs.Routine as Routine
 use Rattle.control_flow.specs.Measuring as Measuring
+use Rattle.rules.specs.Paths as Paths
 use Rattle.acceptance.specs.Cells as Cells
 use Rattle.code.specs.Instructions as Instructions
 use Rattle.acceptance.specs.Starts as Starts
@@ -45,7 +46,7 @@ unfolding xor Bits.bit Checks.first Checks.both Checks.under Checks.unless Check
     Validation.versionCheck Validation.lengthCheck Validation.lengthsCheck Validation.headerCheck Validation.layoutCheck Validation.refusal
     Validation.validated Set.decodedFor Depth.popped Depth.pushed Code.decodedAt
     Routine.jumpNumber Routine.depthNumber Routine.countFrom Measuring.callUse Measuring.greatestUse Cells.targetCell Cells.storeCell
-    Cells.beginning Cells.callee Cells.calleeCell Instructions.startsFrom Instructions.startsOf Starts.listed Exploration.exploreFrom
+    Paths.beginning Paths.callee Cells.calleeCell Instructions.startsFrom Instructions.startsOf Starts.listed Exploration.exploreFrom
     Exploration.mostMoved Exploration.biasFor Exploration.explored Check.firstAt Check.biasOf Check.exploredIn Check.flowRefusing
     Check.routineRefusing Check.routinesFrom Check.swept Check.codeChecked Check.checked
     Reading.readByte Computing.computed Storing.spTrap Step.pcTrap Storing.moveTrap Storing.storeTrap Storing.callTrap Performing.effectTrap Performing.pcAfter

@@ -12,6 +12,7 @@ mod page;
 mod paths;
 mod reading;
 mod stores;
+mod turns;
 mod words;
 
 use crate::args::{with_value, Opt, Words};
@@ -20,10 +21,11 @@ use crate::limits::{limits, limits_refused};
 use crate::trouble::Trouble;
 use crate::{images, Command, Outcome};
 use fault::Fault;
-use gate_host::{check, Limits, Refusal, Refused, MARKS_ENOUGH};
+use gate_host::{check, turn, Limits, Refusal, Refused, MARKS_ENOUGH};
 pub use lang::Lang;
 use page::Page;
 use std::io::Write;
+pub use turns::line as turn_line;
 
 pub const COMMAND: Command = Command { name: "explain", help: include_str!("help/explain.txt"), options: OPTIONS, run };
 
@@ -56,11 +58,13 @@ pub fn of_limits(lang: Lang, limits: &Limits) -> String {
 /// The verdict on an image under limits that are not refused.
 fn of_image(lang: Lang, name: &str, image: &[u8], limits: &Limits) -> (Outcome, String) {
     let mut page = Page::new(lang);
-    match check(image, limits, &mut [0; MARKS_ENOUGH]) {
-        Ok(accepted) => {
+    let mut marks = [0; MARKS_ENOUGH];
+    let verdict = check(image, limits, &mut marks).and_then(|accepted| Ok((accepted, turn(image, limits, &mut marks)?)));
+    match verdict {
+        Ok((accepted, turn)) => {
             page.title(&words::accepted(lang, name));
             if let Ok(code) = Code::read(image) {
-                calls::accepted(&mut page, &code, limits, accepted);
+                calls::accepted(&mut page, &code, limits, accepted, turn);
             }
             (Outcome::Good, page.text)
         }

@@ -56,12 +56,10 @@ fn numbers_have_one_text() {
 
 /// README's condition is the text, or the text after a colon and what it is of, such as a trap.
 #[test]
-fn readme_lists_the_refusals_and_traps() {
+fn readme_lists_the_numbers() {
     let header = header();
     let mut texts = header.texts().0;
-    for number in [cells::OK, cells::FINISHED, cells::SPENT] {
-        texts.remove(&number);
-    }
+    texts.remove(&cells::OK);
     let (_, table) = READMES[1].split_once("| No. | Condition |\n|---|---|\n").expect("the table of numbers");
     let row = |row: &'static str| row.trim_matches(['|', ' ']).split_once(" | ").expect("two columns");
     let rows: Vec<(&str, &str)> = table.lines().take_while(|line| line.starts_with('|')).map(row).collect();

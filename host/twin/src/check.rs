@@ -122,7 +122,7 @@ impl<'a> Check<'a> {
     /// Finds the target of each jump, reached or not: 13 and 10.
     fn aim(&mut self, begun: usize, first: usize, end: usize) -> Result<(), Refused> {
         for start in &mut self.starts[begun..] {
-            let Some(offset) = jump_offset(start.instruction) else { continue };
+            let Some(offset) = start.instruction.jump_offset() else { continue };
             let target = i32::from(start.next) + i32::from(offset);
             if !(first as i32..end as i32).contains(&target) {
                 return Err(refused(Refusal::Jump, start.offset));
@@ -174,18 +174,11 @@ impl<'a> Check<'a> {
             return Err(Refusal::Store);
         }
         let need = u16::from(depth.max(after));
-        let Some(address) = self.call_address(start) else { return Ok(need) };
+        let next = self.image.base as i32 + i32::from(start.next);
+        let Some(address) = start.instruction.call_address(next) else { return Ok(need) };
         match self.earlier.binary_search_by_key(&address, |callee| callee.address) {
             Ok(number) => Ok(need.max(u16::from(depth) + 2 + self.earlier[number].need)),
             Err(_) => Err(Refusal::Call),
-        }
-    }
-
-    fn call_address(&self, start: &Start) -> Option<i32> {
-        match start.instruction {
-            Instruction::Call(address) => Some(address.into()),
-            Instruction::CallRelative(offset) => Some(self.image.base as i32 + i32::from(start.next) + i32::from(offset)),
-            _ => None,
         }
     }
 }
@@ -196,13 +189,6 @@ fn refused(refusal: Refusal, offset: u16) -> Refused {
 
 fn falls(instruction: Instruction) -> bool {
     !matches!(instruction, Instruction::Jump(0, _) | Instruction::Ret)
-}
-
-fn jump_offset(instruction: Instruction) -> Option<i8> {
-    match instruction {
-        Instruction::Jump(_, offset) | Instruction::BitJump { offset, .. } => Some(offset),
-        _ => None,
-    }
 }
 
 /// What an instruction adds to the depth. A path may go below 0 and above 255.

@@ -177,6 +177,25 @@ impl Instruction {
             _ => None,
         }
     }
+
+    /// How far it jumps from the next instruction, if it is a jump, JRF and those on a bit included.
+    #[inline]
+    pub fn jump_offset(self) -> Option<i8> {
+        match self {
+            Instruction::Jump(_, offset) | Instruction::BitJump { offset, .. } => Some(offset),
+            _ => None,
+        }
+    }
+
+    /// The address that it calls, if it is a call and the next instruction is at `next`.
+    #[inline]
+    pub fn call_address(self, next: i32) -> Option<i32> {
+        match self {
+            Instruction::Call(address) => Some(address.into()),
+            Instruction::CallRelative(offset) => Some(next + i32::from(offset)),
+            _ => None,
+        }
+    }
 }
 
 /// Why bytes are no instruction.

@@ -13,6 +13,7 @@ pub mod random;
 mod record;
 pub mod slu;
 mod text;
+mod turn;
 
 pub use check::{check, depth_change};
 pub use cycles::when;
@@ -21,3 +22,4 @@ pub use image::{granted, holds, validate, Image};
 pub use machine::{run, start, step};
 pub use record::step_back;
 pub use text::text;
+pub use turn::turn;

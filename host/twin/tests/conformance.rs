@@ -1,30 +1,46 @@
 //! The conformance corpus: each line of its files, printed anew by the library and by the twin, is the line. `conformance/README.md`
 //! says what a line is.
 
-use gate_host::{Accepted, Area, Ending, Limits, Overwritten, Record, Refusal, Refused, Registers, Run, Step};
+use gate_host::{
+    Accepted, Area, Ending, Limits, Overwritten, Record, Refusal, Refused, Registers, Run, Step, Turn, MEMORY_BYTES,
+};
 use gate_twin as twin;
 use std::fmt::Write;
 use std::fs;
 use std::path::{Path, PathBuf};
 
+type Verdict = Result<Accepted, Refused>;
+type Turned = Result<Turn, Refused>;
+type Ran = Result<Run, Refusal>;
+type Starter = fn(&[u8], &Limits, &mut [u16], &mut [u8], &mut Registers) -> Verdict;
+type Stepper = fn(&[u8], &Limits, &mut [u8], &mut Registers) -> (Result<Step, Refusal>, Record);
+
 /// The calls of a loader.
 struct Loader {
-    check: fn(&[u8], &Limits, &mut [u16]) -> Result<Accepted, Refused>,
-    start: fn(&[u8], &Limits, &mut [u16], &mut [u8], &mut Registers) -> Result<Accepted, Refused>,
-    step: fn(&[u8], &Limits, &mut [u8], &mut Registers) -> (Result<Step, Refusal>, Record),
+    check: fn(&[u8], &Limits, &mut [u16]) -> Verdict,
+    turn: fn(&[u8], &Limits, &mut [u16]) -> Turned,
+    start: Starter,
+    step: Stepper,
     step_back: fn(&Record, &mut [u8], &mut Registers) -> Result<(), Refusal>,
-    run: fn(&[u8], &Limits, &mut [u8], &mut Registers, u32) -> Result<Run, Refusal>,
+    run: fn(&[u8], &Limits, &mut [u8], &mut Registers, u32) -> Ran,
 }
 
 const LIBRARY: Loader = Loader {
     check: gate_host::check,
+    turn: gate_host::turn,
     start: gate_host::start,
     step: gate_host::step,
     step_back: gate_host::step_back,
     run: gate_host::run,
 };
-const TWIN: Loader =
-    Loader { check: twin::check, start: twin::start, step: twin::step, step_back: twin::step_back, run: twin::run };
+const TWIN: Loader = Loader {
+    check: twin::check,
+    turn: twin::turn,
+    start: twin::start,
+    step: twin::step,
+    step_back: twin::step_back,
+    run: twin::run,
+};
 
 /// The bytes of a case that are still to be read.
 struct Fields(std::vec::IntoIter<u8>);
@@ -107,15 +123,24 @@ fn registers(registers: &Registers) -> String {
     format!("A {a:02X} X {x:04X} Y {y:04X} CC {cc:02X} SP {sp:04X} PC {pc:06X}")
 }
 
-fn verdict(answer: &Result<Accepted, Refused>, marks: &[u16]) -> String {
-    let mut text = match answer {
-        Ok(Accepted { need, count }) => format!("accepted {need} {count}, marks"),
-        Err(Refused { refusal, offset }) => format!("refused {} {offset}, marks", refusal.number()),
-    };
+fn refused(Refused { refusal, offset }: &Refused) -> String {
+    format!("refused {} {offset}", refusal.number())
+}
+
+fn with_marks(answer: String, marks: &[u16]) -> String {
+    let mut text = answer + ", marks";
     for mark in marks {
         write!(text, " {mark}").expect("a text takes all");
     }
     text
+}
+
+fn verdict(answer: &Verdict, marks: &[u16]) -> String {
+    let answer = match answer {
+        Ok(Accepted { need, count }) => format!("accepted {need} {count}"),
+        Err(why) => refused(why),
+    };
+    with_marks(answer, marks)
 }
 
 fn check(loader: &Loader, mut fields: Fields) -> String {
@@ -124,6 +149,25 @@ fn check(loader: &Loader, mut fields: Fields) -> String {
     let image: Vec<u8> = fields.0.collect();
     let answer = (loader.check)(&image, &limits, &mut marks);
     verdict(&answer, &marks)
+}
+
+fn turn(loader: &Loader, mut fields: Fields) -> String {
+    let limits = fields.limits();
+    let mut marks = vec![9; fields.byte().into()];
+    let image: Vec<u8> = fields.0.collect();
+    let answer = (loader.turn)(&image, &limits, &mut marks);
+    match &answer {
+        Ok(Turn::Within(turn)) => {
+            let worked_out = with_marks(format!("within {turn}"), &marks);
+            let (mut memory, mut registers) = (vec![0; MEMORY_BYTES], Registers::default());
+            (loader.start)(&image, &limits, &mut marks, &mut memory, &mut registers).expect("an accepted image");
+            let run = (loader.run)(&image, &limits, &mut memory, &mut registers, *turn);
+            format!("{worked_out}; {}", ran(&run))
+        }
+        Ok(Turn::None) => with_marks("none".to_string(), &marks),
+        Ok(Turn::Over) => with_marks("over".to_string(), &marks),
+        Err(why) => with_marks(refused(why), &marks),
+    }
 }
 
 /// The Adler-32 sum of RFC 1950.
@@ -219,18 +263,18 @@ fn run(loader: &Loader, mut fields: Fields) -> String {
     let (mut after, budget, image) = (fields.registers(), fields.long(), fields.image());
     let mut memory = fields.cells(length);
     let answer = (loader.run)(&image, &limits, &mut memory.bytes, &mut after, budget);
-    let answer = match answer {
-        Ok(Run { ending, steps, cycles }) => {
-            let ending = match ending {
-                Ending::Finished => "finished".to_string(),
-                Ending::Spent => "spent".to_string(),
-                Ending::Trapped(trap) => format!("trap {}", trap.number()),
-            };
-            format!("{ending} after {steps}, cycles {cycles}")
-        }
-        Err(refusal) => format!("refused {} after 0, cycles 0", refusal.number()),
+    let cycles = answer.map_or(0, |run| run.cycles);
+    format!("{}, cycles {cycles}: {}{}", ran(&answer), registers(&after), memory.cells())
+}
+
+fn ran(answer: &Ran) -> String {
+    let (ending, steps) = match answer {
+        Ok(Run { ending: Ending::Finished, steps, .. }) => ("finished".to_string(), *steps),
+        Ok(Run { ending: Ending::Spent, steps, .. }) => ("spent".to_string(), *steps),
+        Ok(Run { ending: Ending::Trapped(trap), steps, .. }) => (format!("trap {}", trap.number()), *steps),
+        Err(refusal) => (format!("refused {}", refusal.number()), 0),
     };
-    format!("{answer}: {}{}", registers(&after), memory.cells())
+    format!("{ending} after {steps}")
 }
 
 fn record(loader: &Loader, fields: Fields) -> String {
@@ -268,6 +312,7 @@ fn replayed(loader: &Loader, line: &str) -> String {
     let case = &line[colon + 2..given];
     let answer_of = match case.split(' ').next() {
         Some("check") => check,
+        Some("turn") => turn,
         Some("start") => start,
         Some("step") => step,
         Some("run") => run,

@@ -1,8 +1,8 @@
 //! The examples of docs/FORMAT.md, read out of it and put through the library. The document says how a line of cases is read.
 
 use gate_host::{
-    check, decode, run, start, step, step_back, Accepted, Area, Ending, Limits, Overwritten, Record, Refused, Registers, Run,
-    Step, MARKS_ENOUGH, MEMORY_BYTES,
+    check, decode, run, start, step, step_back, turn, Accepted, Area, Ending, Limits, Overwritten, Record, Refused, Registers,
+    Run, Step, Turn, MARKS_ENOUGH, MEMORY_BYTES,
 };
 use gate_twin::slu;
 use std::collections::BTreeSet;
@@ -32,10 +32,14 @@ fn area(low: u32, high: u32) -> Area {
     Area { low: low as u16, high: high as u16 }
 }
 
+fn refused(Refused { refusal, offset, .. }: &Refused) -> String {
+    format!("refused {} {offset}", refusal.number())
+}
+
 fn verdict(answer: &Result<Accepted, Refused>) -> String {
     match answer {
         Ok(Accepted { need, count, .. }) => format!("accepted {need} {count}"),
-        Err(Refused { refusal, offset, .. }) => format!("refused {} {offset}", refusal.number()),
+        Err(why) => refused(why),
     }
 }
 
@@ -155,6 +159,7 @@ impl<'a> Case<'a> {
     fn outcome(&self) -> String {
         match self.verb {
             "check" | "image" => self.checked(),
+            "turn" => self.turned(),
             "start" => self.started(),
             "step" => self.stepped(),
             "run" => self.ran(),
@@ -172,6 +177,21 @@ impl<'a> Case<'a> {
     fn checked(&self) -> String {
         let mut marks = vec![MARK; self.marks];
         let answer = verdict(&check(&self.image(), &self.limits, &mut marks));
+        self.with_marks(answer, &marks)
+    }
+
+    fn turned(&self) -> String {
+        let mut marks = vec![MARK; self.marks];
+        let answer = match turn(&self.image(), &self.limits, &mut marks) {
+            Ok(Turn::Within(turn)) => format!("within {turn}"),
+            Ok(Turn::None) => "none".to_string(),
+            Ok(Turn::Over) => "over".to_string(),
+            Err(why) => refused(&why),
+        };
+        self.with_marks(answer, &marks)
+    }
+
+    fn with_marks(&self, answer: String, marks: &[u16]) -> String {
         if !self.tells("marks=") {
             return answer;
         }
@@ -266,13 +286,15 @@ fn listed(record: &Record) -> String {
     }
 }
 
-/// The number of an outcome, 0 where it is neither a refusal nor a trap nor the end of a run.
+/// The number of an outcome, 0 where it is neither a refusal nor a trap nor the end of a run nor why no turn is given.
 fn number_of(outcome: &str) -> u32 {
     let mut words = outcome.split(' ');
     match words.next() {
         Some("refused" | "trap") => words.next().and_then(|number| number.parse().ok()).expect("a number"),
         Some("finished") => 64,
         Some("spent") => 65,
+        Some("none") => 66,
+        Some("over") => 67,
         _ => 0,
     }
 }

@@ -5,9 +5,9 @@ use super::limit_rules;
 use super::needs::{callee, chain, needs, Need, RETURN_ADDRESS};
 use super::page::{name, range, Page};
 use super::paths::Reach;
-use super::words;
+use super::{turns, words};
 use crate::code::{Code, Start};
-use gate_host::{Accepted, Limits};
+use gate_host::{Accepted, Limits, Turn};
 
 /// What is wrong with a call. Routines go by their numbers, from 0.
 #[derive(Clone, Copy, Debug, PartialEq, Eq)]
@@ -71,11 +71,12 @@ pub fn stack(page: &mut Page, code: &Code, limits: &Limits) {
     page.advise(&words::enlarge_stack(lang, &words::bytes(lang, need.unsigned_abs())));
 }
 
-pub fn accepted(page: &mut Page, code: &Code, limits: &Limits, accepted: Accepted) {
+pub fn accepted(page: &mut Page, code: &Code, limits: &Limits, accepted: Accepted, turn: Turn) {
     let lang = page.lang;
     let needs = needs(code);
     page.line(&words::need_of_area(lang, accepted.need, area(limits), &limit_rules::text(limits.stack)));
     page.line(&words::instructions(lang, accepted.count));
+    page.line(&turns::line(lang, code, turn));
     page.line(&words::routines(lang));
     for (number, routine) in code.routines.iter().enumerate() {
         let (name, range) = (name(lang, code, number), range(code, &routine.range));

@@ -5,10 +5,10 @@ mod predicted;
 
 use super::needs::{chain, needs, RETURN_ADDRESS};
 use super::paths::{Path, Reach};
-use super::{header, jumps, limit_rules, of_image, of_limits, reading, words, Lang};
+use super::{header, jumps, limit_rules, of_image, of_limits, reading, turns, words, Lang};
 use crate::code::{Code, Flow};
 use crate::limits::limits_refused;
-use gate_host::{check, decode, Area, Limits, Refusal, Refused, MARKS_ENOUGH};
+use gate_host::{check, decode, turn, Area, Limits, Refusal, Refused, Turn, MARKS_ENOUGH};
 use gate_twin::Instruction;
 use makers::Case;
 
@@ -249,6 +249,30 @@ fn needs_and_chains_are_the_librarys() {
         assert_eq!((RETURN_ADDRESS + sum, need.unwrap_or(whole)), (whole.into(), whole), "{case:?}");
     }
     [accepted, small].into_iter().for_each(enough);
+}
+
+#[test]
+fn a_jump_goes_back_where_the_library_finds_no_turn() {
+    let [mut none, mut within] = [0; 2];
+    for (case, _) in cases().filter(|(_, verdict)| verdict.is_ok()) {
+        let found = turn(&case.image, &case.limits, &mut [0; MARKS_ENOUGH]).unwrap();
+        let code = Code::read(&case.image).unwrap();
+        assert_eq!(turns::first_back(&code).is_some(), found == Turn::None, "{case:?}");
+        *if found == Turn::None { &mut none } else { &mut within } += 1;
+    }
+    [none, within].into_iter().for_each(enough);
+}
+
+#[test]
+fn the_first_jump_that_goes_back_is_named() {
+    let said = |routines: &[&[u8]]| said_of(routines).lines().nth(3).unwrap_or_default().to_string();
+    let named = |jump: &str| format!("  Turn: none, a jump goes back: {jump}");
+    assert_eq!(said(&[&[0x26, 0xFE, 0x81], &[0x9D, 0x20, 0xFD]]), named("8000 JRNE $8000"));
+    assert_eq!(said(&[&[0x26, 0x00, 0x81], &[0x9D, 0x20, 0xFD]]), named("8004 JRA $8003"));
+    assert_eq!(said(&[&[0x9D, 0x21, 0xFD, 0x81]]), named("8001 JRF $8000"));
+    assert_eq!(said(&[&[0x72, 0x01, 0x00, 0x10, 0xFB, 0x81]]), named("8000 BTJF $0010,#0,$8000"));
+    assert_eq!(said(&[&[0x81], &[0xCD, 0x80, 0x00, 0x81]]), "  Turn: at most 3 steps");
+    assert_eq!(said(&[&[0x81]]), "  Turn: at most 1 step");
 }
 
 #[test]

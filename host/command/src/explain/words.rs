@@ -51,6 +51,15 @@ pub fn bytes(lang: Lang, count: u32) -> String {
     }
 }
 
+/// A number of steps.
+pub fn steps(lang: Lang, count: u32) -> String {
+    if count == 1 {
+        one_step(lang, count)
+    } else {
+        many_steps(lang, count)
+    }
+}
+
 // What is said of every image.
 table! {
     accepted(name: &str) { en: "{name}: accepted", fr: "{name} : acceptée" }
@@ -371,6 +380,15 @@ table! {
         en: "push before it, by PUSH or SUB SP, and store at offsets from 1 to the depth",
         fr: "empilez d'abord, par PUSH ou SUB SP, et écrivez à des décalages allant de 1 à la profondeur"
     }
+}
+
+// What is accepted: turns.
+table! {
+    turn_within(steps: &str) { en: "Turn: at most {steps}", fr: "Tour : au plus {steps}" }
+    turn_over() { en: "Turn: above 4,294,967,295 steps", fr: "Tour : plus de 4 294 967 295 pas" }
+    no_turn(jump: &str) { en: "Turn: none, a jump goes back: {jump}", fr: "Tour : aucun, un saut va en arrière : {jump}" }
+    one_step(count: u32) { en: "{count} step", fr: "{count} pas" }
+    many_steps(count: u32) { en: "{count} steps", fr: "{count} pas" }
 }
 
 // 14 and 16, and what is accepted: calls and needs.

@@ -179,7 +179,7 @@ fn a_compiled_routine_runs_to_its_end() {
     folder.write("passage.slu", &image);
     let limits = ["--grant", "0000-00FF", "--stack", "0300-03FF", "passage.slu"];
     let with = |name: &'static str| [&[name], &limits[..]].concat();
-    assert_eq!(folder.good(&with("check")), "passage.slu: accepted, need 4, 20 instructions\n");
+    assert_eq!(folder.good(&with("check")), "passage.slu: accepted, need 4, 20 instructions\n  Turn: at most 20 steps\n");
     let trace = folder.good(&with("trace"));
     assert!(trace.lines().last().is_some_and(|line| line.starts_with("finished: ")), "{trace}");
 }

@@ -105,7 +105,7 @@ fn limits_that_are_none_are_told() {
 fn files_that_cannot_be_read_are_told() {
     let folder = folder();
     folder.write("locked", IMAGE);
-    fs::set_permissions(folder.path().join("locked"), fs::Permissions::from_mode(0)).expect("a file is locked");
+    fs::set_permissions(folder.path().join("locked"), fs::Permissions::from_mode(0o000)).expect("a file is locked");
     // Who may read all files, reads this one too.
     let locked = File::open(folder.path().join("locked")).is_err();
     for (file, why, there) in [

@@ -84,7 +84,7 @@ impl Expected {
         twin::start(image, limits, &mut marks, &mut twins, &mut twin_registers).expect("a start");
         self.states.push(registers);
         loop {
-            assert_eq!((registers, &memory == &twins), (twin_registers, true));
+            assert_eq!((registers, memory == twins), (twin_registers, true));
             self.ending = match registers.pc {
                 0 => Ending::Finished,
                 pc if Some(pc) == self.stop => Ending::Break,

@@ -18,6 +18,7 @@ fn levels() -> Vec<u8> {
     memory[0x10..0x1F]
         .copy_from_slice(&[0x90, 0x62, 0x20, 0x00, 0x18, 0x00, 0x04, 0x03, 0x80, 0x40, 0x00, 0x44, 0x00, 0x8A, 0x61]);
     memory[0x20..0x30].copy_from_slice(b"\x2E\x2A\x25\x21\x1C\x19\x1D\x22\x60\x61\x63\x62\x62\x61\x62\x63");
+    memory[0x30..0x38].copy_from_slice(&[0x10, 0x60, 0x44, 0x08, 0x70, 0x43, 0x10, 0x61]);
     memory[0x4000..0x4004].copy_from_slice(&[0x02, 0x00, 0x00, 0xFF]);
     memory
 }
@@ -26,7 +27,8 @@ fn levels() -> Vec<u8> {
 fn examples_are_traced_as_stored() {
     let memory = file("levels.bin", &levels());
     for example in accepted() {
-        let more = ["--memory", memory.to_str().expect("a path"), "--registers", "A=12,CC=28", "--back", "2"];
+        let path = memory.to_str().expect("a path");
+        let more = ["--memory", path, "--registers", "A=12,CC=28", "--steps", "100", "--back", "2"];
         let answer = gate(&words("trace", &example.limits, &more, &example.image));
         assert_eq!((answer.status, answer.err.as_str()), (0, ""), "{}", example.name);
         compare("traced", &example.name, &answer.out);

@@ -6,7 +6,7 @@
 //! All times are elapsed time: the standard library has no clock for processor time, and the system's account of it for another
 //! process ticks in 10 ms.
 
-use gate_host::{Area, Ending, Limits, Record, Refusal, Registers, Run, Step, MARKS_ENOUGH, MEMORY_BYTES};
+use gate_host::{Area, Ending, Limits, Record, Refusal, Registers, Run, Step, Turn, MARKS_ENOUGH, MEMORY_BYTES};
 use gate_twin::{self as twin, slu};
 use std::fs;
 use std::hint::black_box;
@@ -172,11 +172,12 @@ fn decodes_alone() -> Task {
 
 // Checking.
 
-/// A mixed image; one in which a check that goes over the code until nothing new is reached goes over it 1,000 times; and straight
-/// code, to see that twice the bytes take twice the time.
-fn checks() -> [Task; 6] {
+/// A mixed image, and its turn; one in which a check that goes over the code until nothing new is reached goes over it 1,000 times; and
+/// straight code, to see that twice the bytes take twice the time.
+fn checks() -> [Task; 7] {
     [
         check_of("check of 4,096 bytes", full_image()),
+        turn_of("turn of 4,096 bytes", full_image()),
         check_of("check, 1,000 jumps back", backward_image()),
         check_of("check, straight, 512 bytes", straight_image(512)),
         check_of("check, straight, 1,024 bytes", straight_image(1_024)),
@@ -190,14 +191,31 @@ fn check_of(name: &'static str, image: Vec<u8>) -> Task {
     let verdict = gate_host::check(&image, &LIMITS, &mut marks);
     assert_eq!(verdict, twin::check(&image, &LIMITS, &mut twin_marks));
     assert!(verdict.is_ok() && marks == twin_marks);
-    // As many bytes are checked in every round.
-    let count = 5 * 4_096 / twin::Image::parse(&image).expect("an image").code.len();
-    let rounds = short_rounds(
-        count,
-        || (0..count).for_each(|_| _ = black_box(gate_host::check(black_box(&image), &LIMITS, &mut marks))),
-        || (0..count).for_each(|_| _ = black_box(twin::check(black_box(&image), &LIMITS, &mut twin_marks))),
+    let rounds = rounds_over(
+        &image,
+        |image| _ = black_box(gate_host::check(image, &LIMITS, &mut marks)),
+        |image| _ = black_box(twin::check(image, &LIMITS, &mut twin_marks)),
     );
     Task { name, units: &[MICROSECONDS], rounds }
+}
+
+fn turn_of(name: &'static str, image: Vec<u8>) -> Task {
+    let (mut marks, mut twin_marks) = ([0; MARKS_ENOUGH], [0; MARKS_ENOUGH]);
+    let turn = gate_host::turn(&image, &LIMITS, &mut marks);
+    assert_eq!(turn, twin::turn(&image, &LIMITS, &mut twin_marks));
+    assert!(matches!(turn, Ok(Turn::Within(_))) && marks == twin_marks);
+    let rounds = rounds_over(
+        &image,
+        |image| _ = black_box(gate_host::turn(image, &LIMITS, &mut marks)),
+        |image| _ = black_box(twin::turn(image, &LIMITS, &mut twin_marks)),
+    );
+    Task { name, units: &[MICROSECONDS], rounds }
+}
+
+/// Rounds over an image, again and again, so that as many bytes are checked in every round.
+fn rounds_over(image: &[u8], mut library: impl FnMut(&[u8]), mut twin: impl FnMut(&[u8])) -> Vec<Round> {
+    let count = 5 * 4_096 / twin::Image::parse(image).expect("an image").code.len();
+    short_rounds(count, || (0..count).for_each(|_| library(black_box(image))), || (0..count).for_each(|_| twin(black_box(image))))
 }
 
 /// An accepted image of 4,096 code bytes: 32 routines of 128, each but the first with a call to the one before.

@@ -5,7 +5,6 @@ use mathlib.Core.Path.{sym, ap, _∙_}
 use native.Mathlib.Omega.{arith}
 use lib.ListN.{length, length-replicate}
 use denote.Ref.{now}
-use Rattle.image.proofs.Layouts.{valid-bounds}
 use Rattle.decode_pass.specs.Pass.{RoutineOf}
 use Rattle.checker.specs.Internal.{Clean}
 use Rattle.checker.proofs.Routines.{Between, between-none, zeros-clean, routine-ready, need-fits, swept-stopped, between-more, swept-ended}
@@ -22,11 +21,6 @@ abbrev μ-loop : tie.MeasureT-loop
 loop-holds : tie.Need-loop-holds Inv-loop μ-loop
 loop-holds c = (between-none (c .before .before .before .pre .2) (c .begun .ensures), zeros-clean _)
 
-routine-at-requires : tie.Need-routine-at-requires Inv-loop μ-loop
-routine-at-requires c κs =
-    let p = c .before .before .before .before .before .before .before .pre in
-    (c .if1 .taken, valid-bounds _ _ _ (p .0) .count .1)
-
 -- the next routine
 next : (r : tie.After-routine-at Inv-loop μ-loop) →
     let a = r .before .before .before .before .before .before .before .before .args in
@@ -34,7 +28,7 @@ next : (r : tie.After-routine-at Inv-loop μ-loop) →
 next r =
     let l = r .before .before .before .before in
     let p = l .before .before .before .before .pre in
-    r .routine-at .ensures .0 _ (p .0) (p .1) (l .loop .inv .0 .at)
+    r .routine-at .ensures .0 _ (p .0) (p .1) (r .before .if1 .taken) (l .loop .inv .0 .at)
 
 check-routine-requires : tie.Need-check-routine-requires Inv-loop μ-loop
 check-routine-requires c κs =
@@ -102,7 +96,7 @@ sweep-routines-spec =
     μ-loop
     (λ c κs. tt)
     loop-holds
-    routine-at-requires
+    (λ c κs. tt)
     check-routine-requires
     (λ c κs. tt)
     same-length

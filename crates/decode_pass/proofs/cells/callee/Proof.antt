@@ -3,7 +3,7 @@ use Prim.Native.Nat.{ℕ, _-_, _≤_}
 use mathlib.Core.Path.{_≡_, sym, _∙_}
 use mathlib.Core.List.{List}
 use native.Mathlib.Nat.{sub-zero}
-use Rattle.acceptance.specs.Cells.{beginning}
+use Rattle.rules.specs.Paths.{beginning}
 use Rattle.image.specs.Lengths.{Begins}
 use Rattle.decode_pass.proofs.Callees.{callee-below, callee-above, beginning-stop, beginning-more, beginning-done}
 use native.Mathlib.Omega.{arith}
@@ -17,14 +17,16 @@ Inv-loop begins base r address base' offset j₀ j =
 abbrev μ-loop : tie.MeasureT-loop
 μ-loop begins base r address base' offset j₀ j = r - j
 
-returns-2 : tie.Need-returns-2 Inv-loop μ-loop
-returns-2 c =
+returns-3 : tie.Need-returns-3 Inv-loop μ-loop
+returns-3 c =
     let c4 = c .before .before .before .before in
-    let inside = c .before .before .before .loop-test .taken in
-    λ image e begins.
-    let here = c .before .wide .ensures ∙ begins _ inside in
-    sym (beginning-stop image _ _ _ _ inside here (c .if2 .taken)) ∙ c4 .loop .inv .1 image begins ∙
-    sym (callee-above image _ _ _ e (c4 .before .if1 .left))
+    let inside = c .before .before .before .loop-test .taken in (
+      λ image few e begins.
+          let here = c .before .wide .ensures ∙ begins _ inside in
+          sym (beginning-stop image _ _ _ _ inside here (c .if3 .taken)) ∙ c4 .loop .inv .1 image begins ∙
+          sym (callee-above image _ _ _ e (c4 .before .if2 .left)),
+      omega arith,
+    )
 
 loop-again : tie.Need-loop-again Inv-loop μ-loop
 loop-again c =
@@ -33,14 +35,15 @@ loop-again c =
       omega arith,
       λ image begins.
           let here = c .before .wide .ensures ∙ begins _ inside in
-          sym (beginning-more image _ _ _ _ inside here (c .if2 .left)) ∙ c4 .loop .inv .1 image begins,
+          sym (beginning-more image _ _ _ _ inside here (c .if3 .left)) ∙ c4 .loop .inv .1 image begins,
     )
 
-returns-3 : tie.Need-returns-3 Inv-loop μ-loop
-returns-3 c =
-    let above = c .before .before .if1 .left in
-    λ image e begins.
-    sym (beginning-done image _ _ _ (c .loop-test .left)) ∙ c .before .loop .inv .1 image begins ∙ sym (callee-above image _ _ _ e above)
+returns-4 : tie.Need-returns-4 Inv-loop μ-loop
+returns-4 c =
+    let above = c .before .before .if2 .left in (
+      λ image few e begins. sym (beginning-done image _ _ _ (c .loop-test .left)) ∙ c .before .loop .inv .1 image begins ∙ sym (callee-above image _ _ _ e above),
+      c .before .loop .inv .0,
+    )
 
 pub callee-spec : {M : Type 1} → statement M
 callee-spec =
@@ -48,13 +51,14 @@ callee-spec =
     (tie.spec
     Inv-loop
     μ-loop
-    (λ c. λ image e begins. sym (callee-below image _ _ _ e (c .if1 .taken)))
+    (λ c. (λ image few. absurd (omega (arith, c .if1 .taken)), omega arith))
+    (λ c. (λ image few e begins. sym (callee-below image _ _ _ e (c .if2 .taken)), omega arith))
     (λ c. (omega arith, λ image begins. rw sub-zero))
     (λ c. omega arith)
     (λ c. omega arith)
     (λ c κs. tt)
-    returns-2
+    returns-3
     (λ c. omega arith)
     (λ c. omega arith)
     loop-again
-    returns-3)
+    returns-4)

@@ -11,5 +11,5 @@ callee-cell-spec =
     (λ c κs. search needs)
     (λ c. search needs)
     (λ c. search needs)
-    (λ c. λ image e begins. callee-earlier image _ _ _ (c .before .callee .ensures image e begins) (c .if1 .taken))
-    (λ c. λ image e begins. callee-none image _ _ _ (c .before .callee .ensures image e begins) (c .if1 .left)))
+    (λ c. λ image e begins. callee-earlier image _ _ _ (c .before .callee .ensures .0 image (c .before .before .pre) e begins) (c .if1 .taken))
+    (λ c. λ image e begins. callee-none image _ _ _ (c .before .callee .ensures .0 image (c .before .before .pre) e begins) (c .if1 .left)))

@@ -8,9 +8,10 @@ use crate::met::Met;
 use crate::program::{Case, Known};
 use crate::records::Records;
 use crate::shape::Shape;
+use crate::turns::Turns;
 use crate::versions::Versions;
 use gate_host::cells::{self, LayoutCells, RecordCells, RegisterCells, ReportCells};
-use gate_host::{Accepted, Ending, Limits, Refusal, Refused, Registers, Run, Step, Trap, ROUTINES, TEXT_BYTES};
+use gate_host::{Accepted, Ending, Limits, Refusal, Refused, Registers, Run, Step, Trap, Turn, ROUTINES, TEXT_BYTES};
 use gate_twin::{self as twin, Instruction};
 use std::fmt::Debug;
 
@@ -35,6 +36,7 @@ const BLANK_LAYOUT: LayoutCells = {
 pub struct Tally {
     pub layout: Answers,
     pub check: Answers,
+    pub turn: Answers,
     pub start: Answers,
     pub step: Answers,
     pub step_back: Answers,
@@ -50,6 +52,7 @@ pub struct Tally {
     pub versions: Met<Versions>,
     pub timing: Met<Timing>,
     pub records: Met<Records>,
+    pub turns: Met<Turns>,
     /// Trap 22: PC not in the code, bytes that run out, a call whose next address is 10000.
     pub trap_22: [u64; 3],
 }
@@ -127,12 +130,12 @@ fn report_cells(verdict: Result<Accepted, Refused>) -> (u8, ReportCells) {
     }
 }
 
-/// What a check answered, and the marks that it left.
-#[derive(PartialEq)]
+/// What a check answered, the marks that it left, and the turn, if it is accepted.
 pub struct Checked {
     pub number: u8,
     pub report: ReportCells,
     pub marks: Vec<u16>,
+    pub turn: Option<Turn>,
 }
 
 /// Reads the layout, which has nothing to do with limits and marks.
@@ -158,7 +161,7 @@ fn layout_cells(image: &twin::Image<'_>, length: usize) -> LayoutCells {
     cells
 }
 
-/// Checks, and gives what both answered.
+/// Checks, works out the turn, and gives what both answered.
 pub fn check(case: &Case, marks: &[u16], tally: &mut Tally) -> Compared<Checked> {
     layout(&case.image, tally)?;
     let (mut library, mut other) = (marks.to_vec(), marks.to_vec());
@@ -174,19 +177,62 @@ pub fn check(case: &Case, marks: &[u16], tally: &mut Tally) -> Compared<Checked>
     if let Some(known) = &case.known {
         by_construction(known, number, report, &library)?;
     }
-    Ok(Checked { number, report, marks: library })
+    let turn = turn(case, marks, tally)?;
+    as_expected("turn, by the check: number and offset of a refusal", &(number, report[0]), &turn.refused)?;
+    same_cells("turn, by the check: mark", &turn.marks, &library)?;
+    Ok(Checked { number, report, marks: library, turn: turn.turn })
+}
+
+/// What the working out of a turn answered.
+struct Turned {
+    /// Number and offset, zeros where it is accepted.
+    refused: (u8, u16),
+    turn: Option<Turn>,
+    marks: Vec<u16>,
+}
+
+/// Works out the turn, and gives what both answered.
+fn turn(case: &Case, marks: &[u16], tally: &mut Tally) -> Compared<Turned> {
+    let (mut library, mut other) = (marks.to_vec(), marks.to_vec());
+    let (mut offset, mut cell) = ([u16::from_ne_bytes([BLANK; 2])], [u32::from_ne_bytes([BLANK; 4])]);
+    let number = cells::turn(&case.image, &case.limits, &mut library, &mut offset, &mut cell);
+    let answer = twin::turn(&case.image, &case.limits, &mut other);
+    same("turn: number, offset, turn", &(number, offset[0], cell[0]), &turn_cells(answer))?;
+    same_cells("turn: mark", &library, &other)?;
+    tally.turn.add(number);
+    if let (Ok(turn), Some(Known::Accepted(_, known))) = (answer, &case.known) {
+        as_expected("turn, by construction", &known.turn(), &turn)?;
+        tally.turns.note(Turns::of_known(known));
+    }
+    if answer == Ok(Turn::None) {
+        tally.turns.note(Turns::of_jumps_back(&case.image));
+    }
+    let refused = answer.map_or_else(|Refused { refusal, offset }| (refusal.number(), offset), |_| (cells::OK, 0));
+    Ok(Turned { refused, turn: answer.ok(), marks: library })
+}
+
+/// An answer of the twin.
+fn turn_cells(answer: Result<Turn, Refused>) -> (u8, u16, u32) {
+    match answer {
+        Ok(Turn::Within(turn)) => (cells::OK, 0, turn),
+        Ok(Turn::None) => (cells::NO_TURN, 0, 0),
+        Ok(Turn::Over) => (cells::OVER, 0, 0),
+        Err(Refused { refusal, offset }) => (refusal.number(), offset, 0),
+    }
 }
 
 /// An image is answered as it was made to be: with the depths that it was made with, or with the first refusal that it has.
 fn by_construction(known: &Known, number: u8, report: ReportCells, marks: &[u16]) -> Compared<()> {
     match (known, number) {
-        (Known::Accepted(depths), cells::OK) => {
+        (Known::Accepted(depths, _), cells::OK) => {
             let count = depths.iter().filter(|&&mark| mark != 0).count();
             same("check: count, against construction", &usize::from(report[2]), &count)?;
             same_cells("check: mark, against construction", &marks[..depths.len()], depths)
         }
-        (Known::Accepted(_), 16) => Ok(()),
-        (Known::Accepted(_), _) => Err(format!("check: an image that was made to be accepted is refused {number} {}", report[0])),
+        (Known::Accepted(..), 16) => Ok(()),
+        (Known::Accepted(..), _) => {
+            Err(format!("check: an image that was made to be accepted is refused {number} {}", report[0]))
+        }
         (Known::Refused(refusal, offset), _) if (number, report[0]) == (*refusal, *offset) => Ok(()),
         (Known::Refused(refusal, offset), _) => {
             Err(format!("check: an image that was made to be refused {refusal} {offset} is answered {number} {}", report[0]))

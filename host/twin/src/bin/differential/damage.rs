@@ -80,8 +80,7 @@ impl Generator<'_> {
     /// to.
     fn retarget(&mut self, code: &mut [u8]) {
         let instructions = sweep(code);
-        let is_jump = |instruction| matches!(instruction, Instruction::Jump(..) | Instruction::BitJump { .. });
-        let jumps = instructions.iter().filter(|&&(_, instruction, _)| is_jump(instruction));
+        let jumps = instructions.iter().filter(|(_, instruction, _)| instruction.jump_offset().is_some());
         let nexts: Vec<usize> = jumps.map(|&(_, _, next)| next).collect();
         let Some(next) = self.random.pick_if_any(&nexts) else { return };
         if self.random.one_in(3) {
@@ -208,7 +207,7 @@ impl Generator<'_> {
 }
 
 /// The instructions of code from its first byte on: the offset of each, itself, and the offset after it.
-fn sweep(code: &[u8]) -> Vec<(usize, Instruction, usize)> {
+pub fn sweep(code: &[u8]) -> Vec<(usize, Instruction, usize)> {
     let mut instructions = Vec::new();
     let mut at = 0;
     while let Ok((instruction, length)) = twin::decode(&code[at..]) {

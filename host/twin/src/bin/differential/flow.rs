@@ -1,7 +1,7 @@
 //! Control flow: loops tested at the bottom, which are accepted, and what W-202 refuses with 6, 7 and 11, or W-212 with 8.
 
 use crate::generator::Generator;
-use crate::program::{Case, Flaws, Jump, Program, Routine};
+use crate::program::{Case, Flaws, Jump, Jumps, Program, Routine};
 use crate::shape::Shape;
 use gate_twin::slu;
 use gate_twin::{self as twin, Instruction};
@@ -93,7 +93,7 @@ impl Generator<'_> {
     }
 
     /// A conditional jump, JRF and those on a bit too, whose target is chosen later.
-    fn conditional(&mut self) -> Vec<u8> {
+    pub fn conditional(&mut self) -> Vec<u8> {
         if self.random.one_in(4) {
             let [high, low] = self.random.word().to_be_bytes();
             vec![0x72, self.random.below(16) as u8, high, low, 0]
@@ -224,7 +224,7 @@ impl Generator<'_> {
 
     /// An image of routines whose control flow W-202 refuses, or just lets pass, or that have CALLR.
     pub fn flawed(&mut self) -> Case {
-        let mut program = Program::new(self.version, self.limits());
+        let mut program = Program::new(self.version, Jumps::Any, self.limits());
         let routines = self.random.between(1, 4);
         let with_lanes = if self.random.one_in(8) { self.random.below(routines) } else { routines };
         for number in 0..routines {
@@ -288,7 +288,7 @@ impl Generator<'_> {
 /// The offset after the instruction at `start`, if it is a jump.
 fn after_jump(code: &[u8], start: usize) -> Option<usize> {
     match twin::decode(&code[start..]) {
-        Ok((Instruction::Jump(..) | Instruction::BitJump { .. }, length)) => Some(start + length),
+        Ok((instruction, length)) if instruction.jump_offset().is_some() => Some(start + length),
         _ => None,
     }
 }

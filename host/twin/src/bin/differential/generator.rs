@@ -1,7 +1,7 @@
 //! Images: routines whose answer is known by construction, noise, and borders of the layout.
 
 use crate::flow;
-use crate::program::{Case, Flaws, Program, Routine};
+use crate::program::{Case, Flaws, Jump, Jumps, Program, Routine};
 use crate::random::Random;
 use gate_host::Limits;
 use gate_twin::slu;
@@ -47,7 +47,7 @@ impl<'a> Generator<'a> {
     // Accepted images.
 
     /// An image that the check accepts, unless its need is above the stack area.
-    pub fn accepted(&mut self) -> Case {
+    pub fn accepted(&mut self, jumps: Jumps) -> Case {
         let limits = self.limits();
         let routines = match self.random.below(4) {
             0 => 1,
@@ -60,7 +60,7 @@ impl<'a> Generator<'a> {
             1..=3 => 1_000,
             _ => 200,
         };
-        let mut program = Program::new(self.version, limits);
+        let mut program = Program::new(self.version, jumps, limits);
         for left in (1..=routines).rev() {
             let room = budget.saturating_sub(program.code.len()) / left;
             let flaws = Flaws::none(self.random.pick(&[4, 30, 255]));
@@ -75,7 +75,7 @@ impl<'a> Generator<'a> {
         // Room is left for one more instruction and the routine's end.
         let body = self.random.below(room - 7);
         self.fill(program, &mut routine, program.code.len() + body);
-        if self.random.one_in(5) {
+        if program.jumps == Jumps::Any && self.random.one_in(5) {
             routine.jump(program, &[0x20, 0]);
         } else {
             if !(flaws.any_depth() && self.random.one_in(4)) {
@@ -101,9 +101,11 @@ impl<'a> Generator<'a> {
         while program.code.len() < end {
             let left = end - program.code.len();
             match self.random.below(24) {
-                0 if left > flow::LOOP_FRAME => self.bottom_loop(program, routine, left),
+                0 if left > flow::LOOP_FRAME && program.jumps == Jumps::Any => self.bottom_loop(program, routine, left),
                 1 if left > flow::LOOP_FRAME && routine.flaws.slips => self.slipping_loop(program, routine, left),
                 2 if left >= flow::ISLAND && routine.flaws.islands => self.island(program, routine),
+                // A turn is of calls above all.
+                3..=6 if program.jumps != Jumps::Any => self.call(program, routine),
                 _ => self.instruction(program, routine),
             }
         }
@@ -113,16 +115,19 @@ impl<'a> Generator<'a> {
     fn instruction(&mut self, program: &mut Program, routine: &mut Routine) {
         let template = self.template();
         match template.instruction {
+            jump if jump.jump_offset().is_some() && program.jumps == Jumps::None => {}
             Instruction::Jump(0, _) => {
                 routine.jump(program, &[0x20, 0]);
-                self.reach(program, routine);
+                // Where jumps only go forward the next instruction has its depth, so that it can go there at least.
+                let depth = (program.jumps == Jumps::Forward).then_some(routine.depth);
+                self.reach(program, routine, depth);
             }
             Instruction::Ret => {
                 let here = program.code.len() + 1;
                 let returns = routine.depth == 0 || routine.flaws.any_depth() && self.random.one_in(4);
                 if returns && routine.jumps.iter().any(|jump| jump.reaches(here)) {
                     routine.add(program, &[0x81], routine.depth);
-                    self.reach(program, routine);
+                    self.reach(program, routine, None);
                 }
             }
             _ => self.falling(program, routine, template),
@@ -132,7 +137,7 @@ impl<'a> Generator<'a> {
     /// Adds an instruction that falls to the next one, if it has an allowed form.
     pub fn falling(&mut self, program: &mut Program, routine: &mut Routine, template: &Template) {
         let mut bytes = self.any_operands(template);
-        if matches!(template.instruction, Instruction::Jump(..) | Instruction::BitJump { .. }) {
+        if template.instruction.jump_offset().is_some() {
             routine.jump(program, &bytes);
             return;
         }
@@ -140,6 +145,14 @@ impl<'a> Generator<'a> {
         if let Some(after) = allowed.and_then(|()| self.depth_after(routine, template, &mut bytes)) {
             routine.add(program, &bytes, after);
         }
+    }
+
+    /// Adds a call of some earlier routine, if there is one that it can go to.
+    fn call(&mut self, program: &mut Program, routine: &mut Routine) {
+        let is_call = |template: &&Template| template.instruction.call_address(0).is_some();
+        let calls: Vec<&Template> = self.templates.iter().filter(is_call).collect();
+        let template = self.random.pick(&calls);
+        self.falling(program, routine, template);
     }
 
     /// Any op-code of the set.
@@ -159,17 +172,10 @@ impl<'a> Generator<'a> {
         // An offset into the stack is a byte, however deep it is.
         let (at, depth, end) = (program.code.len(), routine.depth.clamp(0, 255) as usize, bytes.len());
         match template.instruction {
-            Instruction::Call(_) => {
-                let callee = self.random.pick_if_any(&program.firsts)?;
-                program.calls.push((at + 1, callee));
-            }
+            Instruction::Call(_) => program.call(self.random.pick_if_any(&program.firsts)?),
             // Outside the set, whatever its offset.
             Instruction::CallRelative(_) if program.version == 2 => return routine.flaws.callr.then_some(()),
-            Instruction::CallRelative(_) => {
-                let next = at + 2;
-                let near: Vec<usize> = program.firsts.iter().copied().filter(|first| next - first <= 128).collect();
-                bytes[1] = (self.random.pick_if_any(&near)? as isize - next as isize) as u8;
-            }
+            Instruction::CallRelative(_) => bytes[1] = program.callr(self.random.pick_if_any(&program.nearby())?),
             Instruction::StoreA(Place::Stack(_)) if depth < 1 => return None,
             Instruction::StoreA(Place::Stack(_)) => bytes[1] = self.random.between(1, depth) as u8,
             Instruction::StoreWord(Place::Stack(_), _) if depth < 2 => return None,
@@ -238,20 +244,23 @@ impl<'a> Generator<'a> {
         self.granted(limits, bytes, 0xFFFF).map(u16::to_be_bytes)
     }
 
-    /// After JRA or RET: some earlier jump goes to the next instruction, which has that jump's depth.
-    fn reach(&mut self, program: &mut Program, routine: &mut Routine) {
+    /// After JRA or RET: some earlier jump, of this depth if one is given, goes to the next instruction, which has that jump's depth.
+    fn reach(&mut self, program: &mut Program, routine: &mut Routine, depth: Option<i32>) {
         let here = program.code.len();
-        let near: Vec<usize> = (0..routine.jumps.len()).filter(|&number| routine.jumps[number].reaches(here)).collect();
+        let good = |jump: &Jump| jump.reaches(here) && depth.is_none_or(|depth| jump.depth == depth);
+        let near: Vec<usize> = (0..routine.jumps.len()).filter(|&number| good(&routine.jumps[number])).collect();
         let jump = &mut routine.jumps[self.random.pick(&near)];
         jump.fixed = true;
         program.aim(jump.next, here);
         routine.depth = jump.depth;
     }
 
-    /// The jumps that are still free go to starts of their depth; their own start is always one.
+    /// The jumps that are still free go to starts of their depth; their own start is always one, and so is the next where jumps only
+    /// go forward.
     fn resolve(&mut self, program: &mut Program, routine: &Routine) {
         for jump in routine.jumps.iter().filter(|jump| !jump.fixed) {
-            let targets = routine.targets(jump, |depth| depth == jump.depth);
+            let mut targets = routine.targets(jump, |depth| depth == jump.depth);
+            targets.retain(|&target| program.jumps == Jumps::Any || target >= jump.next);
             program.aim(jump.next, self.random.pick(&targets));
         }
     }

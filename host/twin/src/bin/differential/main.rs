@@ -4,8 +4,8 @@
 //!
 //! Cases are made until at least N checks were compared, and N single steps that were made. A difference prints the seed, the
 //! case and both answers, and `--seed S --case K` makes that case again. The exit status is 1 where something differs, or where
-//! some answer, or something that W-201, W-202, W-205, W-206 or W-212 decides on, was never met, a second grant in less than half
-//! of the cases, or a version in less than a third.
+//! some answer, or something that W-201, W-202, W-205, W-206, W-210 or W-212 decides on, was never met, a second grant in less than
+//! half of the cases, or a version in less than a third.
 
 mod back;
 mod compare;
@@ -16,16 +16,18 @@ mod generator;
 mod limits;
 mod memories;
 mod met;
+mod nested;
 mod pair;
 mod program;
 mod records;
 mod shape;
 mod stretch;
 mod trial;
+mod turns;
 mod versions;
 
 use compare::{Answers, Tally};
-use gate_host::cells::{FINISHED, OK, SPENT};
+use gate_host::cells::{FINISHED, NO_TURN, OK, OVER, SPENT};
 use gate_twin::random;
 use generator::Template;
 use limits::Second;
@@ -129,6 +131,7 @@ fn print(options: &Options, cases: u64, templates: &[Template], tally: &Tally) -
     let mut missing = false;
     missing |= row("layout", &tally.layout, [OK, 2, 3, 4]);
     missing |= row("check", &tally.check, 0..=16);
+    missing |= row("turn", &tally.turn, (0..=16).chain([NO_TURN, OVER]));
     missing |= row("start", &tally.start, 0..=17);
     missing |= row("step", &tally.step, [OK, 1, 2, 3, 4, 17, 21, 22, 23, 24, 25, FINISHED]);
     missing |= row("step back", &tally.step_back, [OK, 17, 26]);
@@ -142,6 +145,7 @@ fn print(options: &Options, cases: u64, templates: &[Template], tally: &Tally) -
     missing |= tally.versions.print();
     missing |= tally.timing.print();
     missing |= tally.records.print();
+    missing |= tally.turns.print();
     let [pc, bytes, call] = tally.trap_22;
     println!("trap 22 of steps: PC {pc}, bytes {bytes}, call before 10000 {call}");
     println!("steps made in runs: {}", tally.run_steps);
@@ -177,6 +181,8 @@ fn row(name: &str, answers: &Answers, numbers: impl IntoIterator<Item = u8>) -> 
             OK => format!("ok {times}"),
             FINISHED => format!("finished {times}"),
             SPENT => format!("spent {times}"),
+            NO_TURN => format!("none {times}"),
+            OVER => format!("over {times}"),
             _ => format!("{number}: {times}"),
         });
     }

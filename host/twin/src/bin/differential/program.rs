@@ -3,7 +3,7 @@
 use crate::random::Random;
 use crate::shape::Shape;
 use crate::versions::CALLR;
-use gate_host::Limits;
+use gate_host::{Limits, Turn};
 use gate_twin::slu;
 
 const RET: u8 = 0x81;
@@ -22,21 +22,55 @@ pub struct Case {
 /// What the check must answer, where that is known from how the image was made.
 #[derive(Clone)]
 pub enum Known {
-    /// Accepted with these marks of the code, or refused with 16.
-    Accepted(Vec<u16>),
+    /// Accepted with these marks of the code and this turn, or refused with 16.
+    Accepted(Vec<u16>, KnownTurn),
     /// Refused with this number at this offset.
     Refused(u8, u16),
+}
+
+/// What decides on the turn.
+#[derive(Clone, Copy)]
+pub struct KnownTurn {
+    /// Whether some jump goes to its own or a lower address.
+    pub back: bool,
+    /// The sums of main and of the routine that has the greatest, whatever the jumps.
+    pub main: u128,
+    pub greatest: u128,
+}
+
+impl KnownTurn {
+    pub fn turn(&self) -> Turn {
+        if self.back {
+            return Turn::None;
+        }
+        u32::try_from(self.main).map_or(Turn::Over, Turn::Within)
+    }
+}
+
+/// Which jumps a program may have.
+#[derive(Clone, Copy, PartialEq)]
+pub enum Jumps {
+    Any,
+    Forward,
+    None,
 }
 
 /// The code, routine after routine.
 pub struct Program {
     pub version: u16,
+    pub jumps: Jumps,
     pub code: Vec<u8>,
     pub limits: Limits,
     /// CALL operands: where they stand, and the offset of the routine that they name.
-    pub calls: Vec<(usize, usize)>,
+    calls: Vec<(usize, usize)>,
+    /// The offsets of the routines that the one which is being added calls, one for each call.
+    callees: Vec<usize>,
     /// The offsets of the routines' first bytes.
     pub firsts: Vec<usize>,
+    /// For each of them the sum over its instructions of 1, plus the callee's at calls.
+    sums: Vec<u128>,
+    /// Whether some jump goes to its own or a lower address.
+    back: bool,
     lengths: Vec<usize>,
     marks: Vec<u16>,
     /// What the first routine that is refused is refused with, and the offset.
@@ -45,13 +79,17 @@ pub struct Program {
 }
 
 impl Program {
-    pub fn new(version: u16, limits: Limits) -> Program {
+    pub fn new(version: u16, jumps: Jumps, limits: Limits) -> Program {
         Program {
             version,
+            jumps,
             code: Vec::new(),
             limits,
             calls: Vec::new(),
+            callees: Vec::new(),
             firsts: Vec::new(),
+            sums: Vec::new(),
+            back: false,
             lengths: Vec::new(),
             marks: Vec::new(),
             refused: None,
@@ -59,14 +97,36 @@ impl Program {
         }
     }
 
-    /// The jump that ends before `next` goes to `target`.
+    /// The jump that ends before `next` goes to `target`, which is no byte inside it.
     pub fn aim(&mut self, next: usize, target: usize) {
         let offset = i8::try_from(target as isize - next as isize).expect("a target within reach");
         self.code[next - 1] = offset as u8;
+        self.back |= target < next;
+    }
+
+    /// The CALL that is added next goes to the routine at this offset. Its operand waits for the base.
+    pub fn call(&mut self, callee: usize) {
+        self.calls.push((self.code.len() + 1, callee));
+        self.callees.push(callee);
+    }
+
+    /// The offsets of the routines that a CALLR which is added next can go to.
+    pub fn nearby(&self) -> Vec<usize> {
+        self.firsts.iter().copied().filter(|first| self.code.len() + 2 - first <= 128).collect()
+    }
+
+    /// The CALLR that is added next goes to the routine at this offset, which is nearby. Gives its offset byte.
+    pub fn callr(&mut self, callee: usize) -> u8 {
+        self.callees.push(callee);
+        (callee as isize - (self.code.len() + 2) as isize) as u8
     }
 
     /// Ends a routine. Its shapes are met if the check comes to it, and if they decide the answer.
     pub fn finish(&mut self, routine: Routine) {
+        let sum_of = |callee: usize| self.firsts.iter().position(|&first| first == callee).map_or(0, |number| self.sums[number]);
+        let callees = self.callees.iter().fold(0u128, |sum, &callee| sum.saturating_add(sum_of(callee)));
+        self.sums.push(callees.saturating_add(routine.starts.len() as u128));
+        self.callees.clear();
         self.firsts.push(routine.first);
         self.lengths.push(self.code.len() - routine.first);
         if self.refused.is_none() {
@@ -88,9 +148,10 @@ impl Program {
             let address = (base + callee) as u16;
             self.code[operand..operand + 2].copy_from_slice(&address.to_be_bytes());
         }
+        let (main, greatest) = (self.sums.last().copied().unwrap_or(0), self.sums.iter().copied().max().unwrap_or(0));
         let known = match self.refused {
             Some((number, offset)) => Known::Refused(number, offset as u16),
-            None => Known::Accepted(self.marks),
+            None => Known::Accepted(self.marks, KnownTurn { back: self.back, main, greatest }),
         };
         Case {
             image: slu::image(self.version, base as u16, &self.lengths, &self.code),

@@ -6,12 +6,13 @@ use crate::generator::{Generator, Template};
 use crate::limits::Second;
 use crate::memories::Memories;
 use crate::pair::Pair;
-use crate::program::Case;
+use crate::program::{Case, Jumps};
 use crate::random::Random;
 use crate::stretch::Stretch;
+use crate::turns::Started;
 use crate::versions::{Versions, CALLR};
 use gate_host::cells::{RegisterCells, OK};
-use gate_host::{Area, MEMORY_BYTES};
+use gate_host::{Area, Turn, MEMORY_BYTES};
 
 /// One case: an image, checks of it and of damaged copies, and a start, steps and runs of it.
 pub struct Trial<'a> {
@@ -28,14 +29,17 @@ impl<'a> Trial<'a> {
         let memories = Memories::new(random);
         let version = random.pick(&[1, 2]);
         let mut make = Generator { random, templates, version };
-        let case = match make.random.below(21) {
+        let case = match make.random.below(25) {
             0 => make.border(),
             1 => make.bordering(),
             2 => make.relative(),
             3..=5 => make.noise(),
             6..=7 => make.tangle(),
             8..=10 => make.flawed(),
-            _ => make.accepted(),
+            11 => make.accepted(Jumps::Forward),
+            12 => make.accepted(Jumps::None),
+            13..=14 => make.nested(),
+            _ => make.accepted(Jumps::Any),
         };
         Trial { make, tally, memories, case, call: String::new() }
     }
@@ -49,6 +53,7 @@ impl<'a> Trial<'a> {
             self.cut_stack(need)?;
         }
         self.started()?;
+        self.within_turn()?;
         self.anywhere(30)?;
         self.both_versions()?;
         let sound = self.case.clone();
@@ -57,6 +62,7 @@ impl<'a> Trial<'a> {
             self.check()?;
             if self.make.random.one_in(4) {
                 self.started()?;
+                self.within_turn()?;
             }
             self.anywhere(6)?;
             if self.make.random.one_in(8) {
@@ -112,6 +118,18 @@ impl<'a> Trial<'a> {
             registers = self.run(MEMORY_BYTES, registers)?;
         }
         Ok(())
+    }
+
+    /// Where no jump goes back, a start with any registers, and runs within the turn.
+    fn within_turn(&mut self) -> Compared<()> {
+        let marks = self.marks();
+        let turn = compare::check(&self.case, &marks, self.tally)?.turn;
+        let Some(turn) = turn.filter(|&turn| turn != Turn::None) else { return Ok(()) };
+        let given = self.registers();
+        self.call = format!("runs within {turn:?} after a start with registers {given:04X?}");
+        let (_, registers) = compare::start(&self.case, &marks, &mut self.memories, MEMORY_BYTES, given, self.tally)?;
+        let started = Started { case: &self.case, registers, memories: &self.memories };
+        started.within(turn, self.make.random, self.tally)
     }
 
     /// Single steps from any registers, and a run.

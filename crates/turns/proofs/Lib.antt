@@ -1,0 +1,4 @@
+pub mod Holding
+pub mod RoutineSums
+pub mod TurnLists
+pub mod Answers
