@@ -16,9 +16,9 @@ static const struct gate_limits limits = { .grant = { 0x0000, 0x00FF }, .stack =
 static uint8_t image[HEADER_BYTES + LENGTH_BYTES + MOST_CODE];
 static size_t image_length;
 static uint16_t marks[GATE_MARKS_ENOUGH], report[GATE_REPORT], offset[1];
-static uint8_t memory[GATE_MEMORY_BYTES];
-static uint32_t registers[GATE_REGISTERS], steps[1], most_steps[1];
-static uint64_t cycles[1];
+static uint8_t memory[GATE_MEMORY_BYTES], saved[GATE_SAVED_BYTES], paused[GATE_SAVED_BYTES];
+static uint32_t registers[GATE_REGISTERS], resumed[GATE_REGISTERS], steps[1], most_steps[1];
+static uint64_t cycles[1], total[1];
 static struct gate_record record;
 static struct gate_layout layout;
 
@@ -36,6 +36,14 @@ static void step(void) { gate_step(image, image_length, &limits, memory, sizeof 
 static void step_back(void) { gate_step_back(&record, memory, sizeof memory, registers); }
 
 static void run(void) { gate_run(image, image_length, &limits, memory, sizeof memory, registers, 100000, steps, cycles); }
+
+static void save(void) { gate_save(registers, 0, saved); }
+
+static void resume(void)
+{
+    gate_resume(image, image_length, &limits, marks, GATE_MARKS_ENOUGH, memory, sizeof memory, paused, sizeof paused, 100000,
+                resumed, total, cycles, offset);
+}
 
 static void decode(void)
 {
@@ -55,6 +63,8 @@ static const struct { const char *name; void (*call)(void); size_t most; } calls
     { "gate_step", step, 1024 },
     { "gate_step_back", step_back, 1024 },
     { "gate_run", run, 1024 },
+    { "gate_save", save, 1024 },
+    { "gate_resume", resume, 82 * 1024 },
     { "gate_decode", decode, 1024 },
     { "gate_layout", lay_out, 1024 },
 };
@@ -116,6 +126,14 @@ static void make_image(unsigned kind)
     memset(memory, 0, sizeof memory);
 }
 
+/* Starts, and keeps for gate_resume where the routine stands after two steps: in the first one, where main begins with a call. */
+static void start_and_pause(void)
+{
+    start();
+    gate_run(image, image_length, &limits, memory, sizeof memory, registers, 2, steps, cycles);
+    gate_save(registers, steps[0], paused);
+}
+
 int main(void)
 {
     enum { KINDS = 40 };
@@ -123,7 +141,7 @@ int main(void)
     for (unsigned kind = 0; kind < KINDS; kind++) {
         make_image(kind);
         lay_out();
-        start();
+        start_and_pause();
         for (int number = 0; number < CALLS; number++) {
             const size_t bytes = used(calls[number].call);
             if (bytes > most[number])

@@ -63,11 +63,18 @@ static void take_marks(void)
         marks[number] = 9;
 }
 
+/* Where so many bytes begin, which are then read. */
+static const uint8_t *take_bytes(size_t length)
+{
+    const uint8_t *bytes = fields + next;
+    next += length;
+    return bytes;
+}
+
 static void take_image(size_t length)
 {
-    image = fields + next;
+    image = take_bytes(length);
     image_length = length;
-    next += length;
 }
 
 /* The cells go on to the end of the fields; they are read again when they are printed. */
@@ -353,6 +360,44 @@ static void back(void)
     print_back(&record);
 }
 
+static void save(void)
+{
+    uint8_t saved[GATE_SAVED_BYTES];
+    take_registers(GATE_REGISTERS);
+    const uint64_t high = take(4);
+    const uint64_t steps = high << 32 | take(4);
+    const uint8_t number = gate_save(registers, steps, saved);
+    if (number == GATE_OK)
+        printf("saved ");
+    else
+        printf("refused %u, ", (unsigned)number);
+    for (size_t at = 0; at < GATE_SAVED_BYTES; at++)
+        printf("%02X", (unsigned)saved[at]);
+}
+
+static void resume(void)
+{
+    uint64_t steps[1], cycles[1];
+    uint16_t offset[1];
+    take_limits();
+    take_marks();
+    memory_length = take(2);
+    const size_t saved_length = take(1);
+    const uint8_t *saved = take_bytes(saved_length);
+    const uint32_t budget = take(4);
+    take_image(take(1));
+    put_cells();
+    const uint8_t number = gate_resume(image, image_length, &limits, marks, marks_length, memory, memory_length,
+                                       saved, saved_length, budget, registers, steps, cycles, offset);
+    if (number == GATE_FINISHED || number == GATE_SPENT)
+        print_answer(number);
+    else
+        print_refused(number, *offset);
+    printf(" after %" PRIu64 ", cycles %" PRIu64 ": ", *steps, *cycles);
+    print_after();
+    print_marks();
+}
+
 /* The pairs of capital digits in a text, as bytes. */
 static void read_fields(const char *text, const char *end)
 {
@@ -374,7 +419,7 @@ static int replay(const char *line)
 {
     static const struct { const char *word; void (*answer)(void); } kinds[] = {
         { " check ", check }, { " turn ", work_out_turn }, { " start ", start }, { " step ", step },
-        { " run ", run }, { " record ", step_and_back }, { " back ", back },
+        { " run ", run }, { " record ", step_and_back }, { " back ", back }, { " save ", save }, { " resume ", resume },
     };
     const char *colon = strchr(line, ':');
     const char *equals = colon == NULL ? NULL : strchr(colon, '=');

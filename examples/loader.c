@@ -1,5 +1,5 @@
 /* A loader in C: checks an image, works out its turn, lists it, starts it and runs it, and prints cycles, registers and the bytes
- * that it stored. Then it steps through one, and back.
+ * that it stored. Then it steps through one, and back, and pauses another in the middle and goes on from there.
  *
  *     make
  *     gcc -Iinclude examples/loader.c target/staticlib/libgate_c.a -o loader
@@ -171,6 +171,49 @@ static void step_and_back(void)
     print_state(registers);
 }
 
+/* Runs the sum on from a saved state, with the memory as it is. */
+static void resume(const uint8_t *saved, size_t saved_length)
+{
+    uint32_t registers[GATE_REGISTERS];
+    uint64_t total[1], cycles[1];
+    uint16_t offset[1];
+    const uint8_t ending = gate_resume(sum_to_hundred, sizeof sum_to_hundred, &limits, marks, GATE_MARKS_ENOUGH,
+                                       memory, sizeof memory, saved, saved_length, BUDGET, registers, total, cycles, offset);
+    if (ending != GATE_FINISHED && ending != GATE_SPENT) {
+        printf("  refused %u %u, %s\n", (unsigned)ending, (unsigned)offset[0], gate_number_text(ending));
+        return;
+    }
+    printf("  %s after %" PRIu64 " steps in all, and %" PRIu64 " cycles since resumed\n", gate_number_text(ending), total[0], cycles[0]);
+    print_state(registers);
+}
+
+/* Pauses the sum after seven steps, in the routine that main calls, and goes on from 19 bytes and the memory. Without the memory, where
+ * the routine's return address lies, there is no going on. */
+static void pause_and_resume(void)
+{
+    enum { STEPS = 7 };
+    uint8_t saved[GATE_SAVED_BYTES];
+    uint32_t registers[GATE_REGISTERS] = {0};
+    uint16_t report[GATE_REPORT];
+    uint32_t steps[1];
+    uint64_t cycles[1];
+    memset(memory, 0, sizeof memory);
+    gate_start(sum_to_hundred, sizeof sum_to_hundred, &limits, marks, GATE_MARKS_ENOUGH, memory, sizeof memory, registers, report);
+    gate_run(sum_to_hundred, sizeof sum_to_hundred, &limits, memory, sizeof memory, registers, STEPS, steps, cycles);
+    if (gate_save(registers, steps[0], saved) != GATE_OK)
+        return;
+    printf("sum to a hundred, paused and resumed\n");
+    print_state(registers);
+    printf("  saved");
+    for (unsigned number = 0; number < GATE_SAVED_BYTES; number++)
+        printf(" %02X", (unsigned)saved[number]);
+    printf("\n");
+    resume(saved, sizeof saved);
+    memset(memory, 0, sizeof memory);
+    resume(saved, sizeof saved);
+    resume(saved, sizeof saved - 1);
+}
+
 /* Whether header and archive are of one version. */
 static int is_of_this_header(uint32_t version)
 {
@@ -188,5 +231,6 @@ int main(void)
     load("trim", trim, sizeof trim);
     load("store outside", store_outside, sizeof store_outside);
     step_and_back();
+    pause_and_resume();
     return 0;
 }

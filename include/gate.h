@@ -1,5 +1,5 @@
-/* The gate loader for C: check an image, work out its turn, start it, step it, step back, run it, read its layout, and decode an
- * instruction.
+/* The gate loader for C: check an image, work out its turn, start it, step it, step back, run it, save where it stands, resume from
+ * there, read its layout, and decode an instruction.
  *
  * Every function is total: whatever the bytes, numbers and lengths, it returns, and what it leaves in each cell is said below.
  * What C must see to, as for any pointer: each pointer is not null (where a length is 0 any address that is not null will do),
@@ -21,10 +21,10 @@
  * caller's stack. Calls may go on at the same time, in threads or in an interrupt, if no cell that one of them writes is an
  * argument of another; an image and limits, which are only read, may be shared.
  *
- * gate_check, gate_turn and gate_start take less than 82 KiB of the caller's stack, whatever the image (83,312 bytes at most were
- * measured, of gate_turn): a check's arrays, of a few numbers about each code byte, have 81,920 bytes. No other function takes 1 KiB
- * (992 bytes measured). A call in which the dynamic linker binds memcpy or memset, as the first one may be, takes what that takes
- * besides, some 3 KiB: as the first call of a program gate_turn took 86,200 bytes and gate_layout 3,448.
+ * gate_check, gate_turn, gate_start and gate_resume take less than 82 KiB of the caller's stack, whatever the image (83,312 bytes at
+ * most were measured, of gate_turn): a check's arrays, of a few numbers about each code byte, have 81,920 bytes. No other function
+ * takes 1 KiB (992 bytes measured). A call in which the dynamic linker binds memcpy or memset, as the first one may be, takes what
+ * that takes besides, some 3 KiB: as the first call of a program gate_turn took 86,200 bytes and gate_layout 3,448.
  *
  * The library is for x86-64 with the System V calling convention. A slice is passed as two arguments, the address of its first cell
  * and its length, a number of cells and not of bytes; an array of fixed size, or a struct, is passed as its address alone. */
@@ -40,13 +40,13 @@ extern "C" {
 
 /* The version of the library that this header is of. gate_library_version answers that of the archive. */
 #define GATE_LIBRARY_MAJOR 0u
-#define GATE_LIBRARY_MINOR 3u
+#define GATE_LIBRARY_MINOR 4u
 #define GATE_LIBRARY_PATCH 0u
-#define GATE_LIBRARY_VERSION "0.3.0"
+#define GATE_LIBRARY_VERSION "0.4.0"
 
 /* Answers of every function but gate_library_version: 0, a refusal, a trap, how a step or a run ended, or why no turn is given. */
 enum gate_number {
-    GATE_OK = 0,                    /* accepted, turn given, started, made, gone back, decoded */
+    GATE_OK = 0,                    /* accepted, turn given, started, made, gone back, saved, decoded */
     GATE_LIMITS = 1,                /* limits break a rule of struct gate_limits */
     GATE_NOT_SLU = 2,               /* under 8 bytes, or not SLU */
     GATE_UNKNOWN_VERSION = 3,       /* version neither 0001 nor 0002 */
@@ -70,8 +70,10 @@ enum gate_number {
     GATE_TRAP_STACK = 24,           /* SP would leave its range */
     GATE_TRAP_STORE = 25,           /* a direct store not wholly in a grant, or an SP store outside SP + 1 to stack high */
     GATE_RECORD = 26,               /* a record of more than two bytes, or with one at an address above 7FFF */
-    GATE_FINISHED = 64,             /* a step that began at PC 0; a run that reached it */
-    GATE_SPENT = 65,                /* a run that used up its budget, PC not 0 */
+    GATE_NOT_SLS = 34,              /* a saved state whose length, mark or version is wrong */
+    GATE_NOT_GOOD = 35,             /* a saved state that is not good; in saving, a PC above FFFF or steps above 4,294,967,295 */
+    GATE_FINISHED = 64,             /* a step that began at PC 0; a run that reached it, or was resumed there */
+    GATE_SPENT = 65,                /* a run that used up its budget, or resumed came to the total 4,294,967,295; PC not 0 */
     GATE_NO_TURN = 66,              /* accepted; some jump goes to its own or a lower address, so there is no turn */
     GATE_OVER = 67                  /* accepted; the turn is above 4,294,967,295 */
 };
@@ -105,6 +107,8 @@ static inline const char *gate_number_text(uint8_t number)
     case GATE_TRAP_STACK: return "SP would leave its range";
     case GATE_TRAP_STORE: return "direct store not wholly in one of the grants, or SP store outside SP + 1 to stack high";
     case GATE_RECORD: return "a record of more than two bytes, or with one at an address above 7FFF";
+    case GATE_NOT_SLS: return "saved state not of 19 bytes, not SLS, or not version 0001";
+    case GATE_NOT_GOOD: return "saved state not good, or PC or steps too large to save";
     case GATE_FINISHED: return "finished";
     case GATE_SPENT: return "the budget is used up";
     case GATE_NO_TURN: return "no turn: a jump goes to its own or a lower address";
@@ -113,10 +117,11 @@ static inline const char *gate_number_text(uint8_t number)
     }
 }
 
-#define GATE_MEMORY_BYTES 32768u    /* the memory that start, step, step back and run are lent: addresses 0000 to 7FFF */
+#define GATE_MEMORY_BYTES 32768u    /* the memory that start, step, step back, run and resume are lent: addresses 0000 to 7FFF */
 #define GATE_MARKS_ENOUGH 4096u     /* marks that are enough for every image */
 #define GATE_TEXT_BYTES 24u         /* the cells of a text, its final 0 included */
 #define GATE_ROUTINES 32u           /* the most routines of an image */
+#define GATE_SAVED_BYTES 19u        /* the bytes of a saved state */
 
 /* Addresses, ends included. */
 struct gate_area { uint16_t low, high; };
@@ -245,12 +250,50 @@ uint8_t gate_step_back(const struct gate_record *record,
  *   a trap: the same, from before the trapping step, which changed nothing. PC is where it stands.
  *   a refusal: registers come back as they were read, and memory is as it was.
  * Where no step was made, "after the last step made" is as they were read. Budget 0 makes none: finished where PC is 0, else
- * spent. */
+ * spent.
+ * Where it stopped can be saved: gate_save takes these registers and the steps made since the start, of this run and those before it. */
 uint8_t gate_run(const uint8_t *image, size_t image_length,
                  const struct gate_limits *limits,
                  uint8_t *memory, size_t memory_length,
                  uint32_t registers[GATE_REGISTERS],
                  uint32_t budget, uint32_t steps[1], uint64_t cycles[1]);
+
+/* Saves registers and steps as a saved state, from which gate_resume goes on: SLS, version 0001. The answer is 0; or 35 where PC is above
+ * FFFF, to which no accepted routine comes, or steps are above 4,294,967,295, to which a sum over several runs may come. Registers are
+ * read as in gate_step.
+ * saved: 53 4C 53 for SLS, the version 0001 (2 bytes), PC (2), SP (2), A (1), X (2), Y (2), CC (1) and steps (4), high bytes first.
+ * Refused, all bytes are 00.
+ * steps: those made since the start, so the sum over the runs and single steps since then, or what gate_resume reported and those made
+ * since. The memory is not saved: it is the caller's to keep, all of it and as it is now, beside the saved state. */
+uint8_t gate_save(const uint32_t registers[GATE_REGISTERS], uint64_t steps, uint8_t saved[GATE_SAVED_BYTES]);
+
+/* Resumes from a saved state: makes steps from its registers, on the memory as it is lent, until the routine finishes, budget steps are
+ * made or their total is 4,294,967,295. The answer is GATE_FINISHED, GATE_SPENT, or a refusal: 17; then 1 to 16, the whole check; then
+ * 34, where the saved state has another length than 19, other letters than SLS or another version than 0001; then 35, where it is not
+ * good. It is never a trap, for an accepted routine does not trap from a good state, whatever else the memory holds.
+ *   Good: PC is 0, for finished, and SP equals stack high. Or PC is at a start, and the stack holds from SP + 1 up: as many bytes as the
+ *   depth there, of any value; the address after a call to that start's routine; as many bytes as the depth at that call; the address
+ *   after a call to the routine that the call stands in; and so on up to main's return bytes, which are 00 00 and the top two of the
+ *   stack area. Nobody calls main. A, X, Y, CC, steps and all other bytes of memory may be any. Every state is good that steps and runs
+ *   from a start come to. From a good one all holds that is guaranteed after a start, and the memory that is lent now counts as the
+ *   memory before the start.
+ * With the image and the limits of the start, and the memory as it was when the state was saved, a run that was saved and resumed comes
+ * to the same registers, memory and total of steps as one run with the sum of the budgets, where that is a budget.
+ * What registers, steps, cycles and offset held is not read. Whatever the answer they are written:
+ *   GATE_FINISHED: registers and memory are those after the last step made, and PC is 0. steps: the total, those of the saved state and
+ *   those made now. cycles: the sum over those made now alone. Where PC was 0 none is made.
+ *   GATE_SPENT: the same, with PC not 0: budget steps are made, or the total is 4,294,967,295. Budget 0 makes none: with it the call
+ *   tests a saved state and takes it apart. To go on, call gate_run with these registers, or save them and resume.
+ *   a refusal: registers, steps and cycles are 0, and no memory is written. offset is that of gate_check; for any other answer 0.
+ * marks: after 17 none has changed; after 1 to 16 they are as gate_check leaves them; else as it leaves them where it accepts, after 34
+ * and 35 too. No memory is written but by the steps: main's return bytes are tested, and not written as by gate_start. */
+uint8_t gate_resume(const uint8_t *image, size_t image_length,
+                    const struct gate_limits *limits,
+                    uint16_t *marks, size_t marks_length,
+                    uint8_t *memory, size_t memory_length,
+                    const uint8_t *saved, size_t saved_length, uint32_t budget,
+                    uint32_t registers[GATE_REGISTERS],
+                    uint64_t steps[1], uint64_t cycles[1], uint16_t offset[1]);
 
 /* Decodes the instruction at the front of bytes. The answer is 0, 8 (outside the set) or 9 (the bytes end too soon). Loose bytes
  * have no version: the set is the whole one, CALLR included.

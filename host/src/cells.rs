@@ -3,14 +3,15 @@
 //!
 //! The functions at the top of the crate are these with a `Result` for the number.
 
-use crate::types::{Limits, ROUTINES, TEXT_BYTES};
+use crate::types::{Limits, ROUTINES, SAVED_BYTES, TEXT_BYTES};
 use std::mem::size_of;
 
-/// The answer of a step that was made or gone back over, a check that accepted, a turn that is given, bytes that were decoded.
+/// The answer of a step that was made or gone back over, a check that accepted, a turn that is given, a state that was saved, bytes
+/// that were decoded.
 pub const OK: u8 = 0;
-/// The answer of a step that began at PC 0, and of a run that reached it.
+/// The answer of a step that began at PC 0, and of a run that reached it or was resumed there.
 pub const FINISHED: u8 = 64;
-/// The answer of a run that used up its budget.
+/// The answer of a run that used up its budget, and of a resumed one whose total is 4,294,967,295.
 pub const SPENT: u8 = 65;
 /// The answer where there is no turn, since some jump goes to its own or a lower address.
 pub const NO_TURN: u8 = 66;
@@ -60,7 +61,7 @@ const _: () = assert!(size_of::<RecordCells>() == 11 * size_of::<u32>());
 const _: () = assert!(size_of::<LayoutCells>() == 37 * size_of::<u16>());
 
 mod c {
-    use super::{CycleCells, LayoutCells, Limits, RecordCells, RegisterCells, ReportCells, TEXT_BYTES};
+    use super::{CycleCells, LayoutCells, Limits, RecordCells, RegisterCells, ReportCells, SAVED_BYTES, TEXT_BYTES};
 
     // The archive is named by build.rs; the signatures are those of include/gate.h.
     extern "C" {
@@ -120,6 +121,23 @@ mod c {
             budget: u32,
             steps: *mut [u32; 1],
             cycles: *mut [u64; 1],
+        ) -> u8;
+        pub fn gate_save(registers: *const RegisterCells, steps: u64, saved: *mut [u8; SAVED_BYTES]) -> u8;
+        pub fn gate_resume(
+            image: *const u8,
+            image_length: usize,
+            limits: *const Limits,
+            marks: *mut u16,
+            marks_length: usize,
+            memory: *mut u8,
+            memory_length: usize,
+            saved: *const u8,
+            saved_length: usize,
+            budget: u32,
+            registers: *mut RegisterCells,
+            steps: *mut [u64; 1],
+            cycles: *mut [u64; 1],
+            offset: *mut [u16; 1],
         ) -> u8;
         pub fn gate_decode(
             bytes: *const u8,
@@ -295,6 +313,70 @@ pub fn run(
     // SAFETY: as for `check`: every pointer comes with its length from one reference, and what is written from `&mut`.
     unsafe {
         c::gate_run(image.as_ptr(), image.len(), limits, memory.as_mut_ptr(), memory.len(), registers, budget, steps, cycles)
+    }
+}
+
+/// Saves registers and steps, as `gate_save` does.
+///
+/// ```
+/// # use gate_host::cells;
+/// let mut saved = [0xAA; gate_host::SAVED_BYTES];
+/// assert_eq!(cells::save(&[0x05, 0x1234, 0x5678, 0x28, 0x03FD, 0x8002], 1, &mut saved), cells::OK);
+/// assert_eq!(&saved, b"SLS\x00\x01\x80\x02\x03\xFD\x05\x12\x34\x56\x78\x28\x00\x00\x00\x01");
+/// ```
+pub fn save(registers: &RegisterCells, steps: u64, saved: &mut [u8; SAVED_BYTES]) -> u8 {
+    // SAFETY: as for `check`: each pointer comes from a reference to as many cells as its array type says, and what is written from
+    // `&mut`.
+    unsafe { c::gate_save(registers, steps, saved) }
+}
+
+/// Resumes from a saved state, as `gate_resume` does.
+///
+/// ```
+/// # use gate_host::cells;
+/// # use gate_host::{Area, Limits, MEMORY_BYTES};
+/// # let area = |low, high| Area { low, high };
+/// # let limits = Limits { grant: area(0x0000, 0x00FF), stack: area(0x0300, 0x03FF), second: Area::NONE };
+/// # let image = b"SLU\x00\x01\x80\x00\x01\x00\x05\xA6\x05\xB7\x10\x81";
+/// let saved = b"SLS\x00\x01\x80\x02\x03\xFD\x05\x00\x00\x00\x00\x00\x00\x00\x00\x01"; // after the first of three steps
+/// let (mut marks, mut memory, mut registers) = ([0; 5], vec![0; MEMORY_BYTES], [0; 6]);
+/// let (mut steps, mut cycles, mut offset) = ([0], [0], [0]);
+/// let (total, sum, at) = (&mut steps, &mut cycles, &mut offset);
+/// let number = cells::resume(image, &limits, &mut marks, &mut memory, saved, 9, &mut registers, total, sum, at);
+/// assert_eq!((number, registers), (cells::FINISHED, [5, 0, 0, 0, 0x03FF, 0]));
+/// assert_eq!((memory[0x0010], steps, cycles, offset), (0x05, [3], [5], [0]));
+/// ```
+#[allow(clippy::too_many_arguments)]
+pub fn resume(
+    image: &[u8],
+    limits: &Limits,
+    marks: &mut [u16],
+    memory: &mut [u8],
+    saved: &[u8],
+    budget: u32,
+    registers: &mut RegisterCells,
+    steps: &mut [u64; 1],
+    cycles: &mut [u64; 1],
+    offset: &mut [u16; 1],
+) -> u8 {
+    // SAFETY: as for `check`: every pointer comes with its length from one reference, and what is written from `&mut`.
+    unsafe {
+        c::gate_resume(
+            image.as_ptr(),
+            image.len(),
+            limits,
+            marks.as_mut_ptr(),
+            marks.len(),
+            memory.as_mut_ptr(),
+            memory.len(),
+            saved.as_ptr(),
+            saved.len(),
+            budget,
+            registers,
+            steps,
+            cycles,
+            offset,
+        )
     }
 }
 

@@ -224,6 +224,82 @@ pub fn run(image: &[u8], limits: &Limits, memory: &mut [u8], registers: &mut Reg
     Ok(Run { ending, steps: steps[0], cycles: cycles[0] })
 }
 
+/// Saves registers and steps, to [`resume`] from later. It is refused with 35 where PC is above FFFF, to which no accepted routine comes,
+/// or steps are above 4,294,967,295, to which a sum over several runs may come.
+///
+/// The steps are those made since the start: the sum over the runs and single steps since then, or the total of a resumed run and those
+/// made since. The memory is not saved. Whoever wants to resume keeps all of it, as it is now, beside the saved state.
+///
+/// ```
+/// # use gate_host::{Refusal, Registers};
+/// let registers = Registers { a: 5, sp: 0x03FD, pc: 0x8002, ..Registers::default() };
+/// let saved = gate_host::save(&registers, 1)?;
+/// assert_eq!(&saved.to_bytes(), b"SLS\x00\x01\x80\x02\x03\xFD\x05\x00\x00\x00\x00\x00\x00\x00\x00\x01");
+/// assert_eq!(gate_host::save(&Registers { pc: 0x1_0000, ..registers }, 1), Err(Refusal::NotGood));
+/// # Ok::<(), Refusal>(())
+/// ```
+pub fn save(registers: &Registers, steps: u64) -> Result<SavedState, Refusal> {
+    let mut saved = [0; SAVED_BYTES];
+    match cells::save(&registers.to_cells(), steps, &mut saved) {
+        cells::OK => Ok(SavedState::from_bytes(saved)),
+        number => Err(refusal(number)),
+    }
+}
+
+/// Resumes from a saved state, or from the bytes of a file: makes steps from its registers, on the memory as it is lent, until the routine
+/// finishes, `budget` steps are made or their total is 4,294,967,295.
+///
+/// It is refused as a start is; then with 34, where the saved state has another length, mark or version; then with 35, where it is not
+/// good. It is good where PC is 0 and SP equals stack high; or where PC is at a start, and the stack above SP holds the addresses after
+/// the calls that lead there, at the depths of those calls, down to main, whose return bytes are 00 00 at the very top. Every state
+/// that steps and runs from a start come to is good, and from a good one all holds that is guaranteed after a start.
+///
+/// Given the image, the limits and the memory as they were when it was saved, it comes to what would have come without the pause.
+/// Refused, no memory is written. Marks are as [`check`] leaves them, after 34 and 35 too, and unchanged where the memory is refused.
+///
+/// ```
+/// # use gate_host::{Area, Limits, Refusal, Refused, Registers, Resumed, MEMORY_BYTES};
+/// # let area = |low, high| Area { low, high };
+/// # let limits = Limits { grant: area(0x0000, 0x00FF), stack: area(0x0300, 0x03FF), second: Area::NONE };
+/// # let image = b"SLU\x00\x01\x80\x00\x01\x00\x05\xA6\x05\xB7\x10\x81";
+/// let (mut marks, mut memory, mut registers) = ([0; 5], vec![0; MEMORY_BYTES], Registers::default());
+/// gate_host::start(image, &limits, &mut marks, &mut memory, &mut registers)?;
+/// let run = gate_host::run(image, &limits, &mut memory, &mut registers, 1)?;
+/// let saved = gate_host::save(&registers, run.steps.into())?;
+///
+/// // Later, with the same memory: two more steps, which are three in all.
+/// let resumed = gate_host::resume(image, &limits, &mut marks, &mut memory, saved, 1_000)?;
+/// let finished = Registers { a: 5, sp: 0x03FF, pc: 0, ..Registers::default() };
+/// assert_eq!(resumed, Resumed { finished: true, registers: finished, steps: 3, cycles: 5 });
+/// assert_eq!(memory[0x0010], 0x05);
+///
+/// let refused = gate_host::resume(image, &limits, &mut marks, &mut memory, b"SLS", 1_000).unwrap_err();
+/// assert_eq!(refused, Refused { refusal: Refusal::NotSls, offset: 0 });
+/// # Ok::<(), Box<dyn std::error::Error>>(())
+/// ```
+pub fn resume(
+    image: &[u8],
+    limits: &Limits,
+    marks: &mut [u16],
+    memory: &mut [u8],
+    saved: impl AsRef<[u8]>,
+    budget: u32,
+) -> Result<Resumed, Refused> {
+    let mut registers = RegisterCells::default();
+    let (mut steps, mut cycles, mut offset) = ([0], [0], [0]);
+    let (saved, total, sum) = (saved.as_ref(), &mut steps, &mut cycles);
+    let number = cells::resume(image, limits, marks, memory, saved, budget, &mut registers, total, sum, &mut offset);
+    match number {
+        cells::FINISHED | cells::SPENT => Ok(Resumed {
+            finished: number == cells::FINISHED,
+            registers: Registers::from_cells(&registers),
+            steps: steps[0],
+            cycles: cycles[0],
+        }),
+        _ => Err(Refused { refusal: refusal(number), offset: offset[0] }),
+    }
+}
+
 /// Decodes the instruction at the front of `bytes`, which are of no image: by the whole set, CALLR included. Its text is that of
 /// the instruction as it stands at `address`.
 ///

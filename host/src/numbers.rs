@@ -38,6 +38,8 @@ pub fn number_text(number: u8) -> &'static str {
         24 => "SP would leave its range",
         25 => "direct store not wholly in one of the grants, or SP store outside SP + 1 to stack high",
         26 => "a record of more than two bytes, or with one at an address above 7FFF",
+        34 => "saved state not of 19 bytes, not SLS, or not version 0001",
+        35 => "saved state not good, or PC or steps too large to save",
         64 => "finished",
         65 => "the budget is used up",
         66 => "no turn: a jump goes to its own or a lower address",

@@ -1,6 +1,6 @@
 //! What goes into the loader and what it answers.
 
-/// The memory that start, step, step back and run are lent: addresses 0000 to 7FFF.
+/// The memory that start, step, step back, run and resume are lent: addresses 0000 to 7FFF.
 pub const MEMORY_BYTES: usize = 32_768;
 /// The most code bytes of an image, so as many marks are enough for every image.
 pub const MARKS_ENOUGH: usize = 4_096;
@@ -8,6 +8,8 @@ pub const MARKS_ENOUGH: usize = 4_096;
 pub const TEXT_BYTES: usize = 24;
 /// The most routines of an image.
 pub const ROUTINES: usize = 32;
+/// The bytes of a saved state.
+pub const SAVED_BYTES: usize = 19;
 
 /// Addresses, ends included. It has no default: one of zeros is byte 0000, and not [`Area::NONE`].
 #[derive(Clone, Copy, Debug, PartialEq, Eq)]
@@ -87,7 +89,7 @@ pub struct Record {
     pub bytes: [Overwritten; 2],
 }
 
-/// Why an image, limits, lent memory or a record were refused.
+/// Why an image, limits, lent memory, a record or a saved state were refused.
 ///
 /// A later version of the library may refuse with more numbers, so a match needs an arm for all others.
 #[derive(Clone, Copy, Debug, PartialEq, Eq)]
@@ -130,10 +132,14 @@ pub enum Refusal {
     Memory = 17,
     /// A record of more than two bytes, or with one at an address above 7FFF.
     Record = 26,
+    /// A saved state whose length, mark or version is wrong.
+    NotSls = 34,
+    /// A saved state that is not good; in saving, a PC above FFFF or steps above 4,294,967,295.
+    NotGood = 35,
 }
 
 impl Refusal {
-    const ALL: [Refusal; 18] = [
+    const ALL: [Refusal; 20] = [
         Refusal::Limits,
         Refusal::NotSlu,
         Refusal::UnknownVersion,
@@ -152,9 +158,11 @@ impl Refusal {
         Refusal::Stack,
         Refusal::Memory,
         Refusal::Record,
+        Refusal::NotSls,
+        Refusal::NotGood,
     ];
 
-    /// Its number: 1 to 17, or 26.
+    /// Its number: 1 to 17, 26, 34 or 35.
     ///
     /// ```
     /// assert_eq!(gate_host::Refusal::Store.number(), 12);
@@ -226,7 +234,7 @@ pub struct Accepted {
     pub count: u16,
 }
 
-/// What a check says of an image that it refuses.
+/// What a check, or a call that checks, says of an image that it refuses.
 #[derive(Clone, Copy, Debug, PartialEq, Eq)]
 pub struct Refused {
     /// Why.
@@ -305,6 +313,57 @@ impl Run {
             Ending::Trapped(trap) => Err(trap),
         }
     }
+}
+
+/// A saved state: registers and steps as 19 bytes, SLS of version 0001. The memory is not in it, and is kept beside it.
+///
+/// [`save`](crate::save) makes one. One of other bytes may hold anything, and [`resume`](crate::resume) tests it. It can be handed to
+/// whatever takes bytes, such as [`std::fs::write`].
+#[derive(Clone, Copy, Debug, PartialEq, Eq)]
+pub struct SavedState([u8; SAVED_BYTES]);
+
+impl SavedState {
+    /// One of these bytes.
+    ///
+    /// ```
+    /// # use gate_host::{Registers, SavedState};
+    /// let saved = gate_host::save(&Registers::default(), 7)?;
+    /// assert_eq!(SavedState::from_bytes(saved.to_bytes()), saved);
+    /// # Ok::<(), gate_host::Refusal>(())
+    /// ```
+    pub const fn from_bytes(bytes: [u8; SAVED_BYTES]) -> SavedState {
+        SavedState(bytes)
+    }
+
+    /// Its bytes.
+    ///
+    /// ```
+    /// let saved = gate_host::save(&gate_host::Registers::default(), 0x01020304)?;
+    /// assert_eq!((&saved.to_bytes()[..3], &saved.to_bytes()[15..]), (&b"SLS"[..], &[1, 2, 3, 4][..]));
+    /// # Ok::<(), gate_host::Refusal>(())
+    /// ```
+    pub const fn to_bytes(self) -> [u8; SAVED_BYTES] {
+        self.0
+    }
+}
+
+impl AsRef<[u8]> for SavedState {
+    fn as_ref(&self) -> &[u8] {
+        &self.0
+    }
+}
+
+/// A resumed run's answer. It has no trap: from a saved state that is good no accepted routine traps.
+#[derive(Clone, Copy, Debug, PartialEq, Eq)]
+pub struct Resumed {
+    /// Whether PC is 0. Else it is spent: the budget is used up, or the total is 4,294,967,295.
+    pub finished: bool,
+    /// Those after the last step made.
+    pub registers: Registers,
+    /// The total: the saved state's, and those made since it was resumed.
+    pub steps: u64,
+    /// The sum of those of the steps made since it was resumed.
+    pub cycles: u64,
 }
 
 /// An instruction's length, text and cycles.

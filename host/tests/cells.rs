@@ -1,7 +1,7 @@
 //! The cells of the C interface: each function writes those that it is given, and none beside them.
 
 use gate_host::cells::{self, LayoutCells, RecordCells};
-use gate_host::{Area, Limits, MEMORY_BYTES, TEXT_BYTES};
+use gate_host::{Area, Limits, MEMORY_BYTES, SAVED_BYTES, TEXT_BYTES};
 use std::hint::black_box;
 
 const LIMITS: Limits =
@@ -70,6 +70,23 @@ fn all_others_write_their_cells_alone() {
     let (lent, given) = (&mut memory.cells, &mut registers.cells);
     assert_eq!(cells::run(IMAGE, &LIMITS, lent, given, 9, &mut steps.cells, &mut cycles.cells), cells::FINISHED);
     assert!(memory.is_whole() && registers.is_whole() && steps.is_whole() && cycles.is_whole(), "run");
+}
+
+#[test]
+fn save_and_resume_write_their_cells_alone() {
+    let mut memory = Box::new(Guarded::new([0; MEMORY_BYTES]));
+    let (mut registers, mut saved) = (Guarded::new([0, 0, 0, 0, 0x03FD, 0x8000]), Guarded::new([0; SAVED_BYTES]));
+    assert_eq!(cells::save(&registers.cells, 0, &mut saved.cells), cells::OK);
+    assert!(registers.is_whole() && saved.is_whole(), "save");
+    let (mut marks, mut offset) = (Guarded::new([0; 5]), Guarded::new([0]));
+    let (mut steps, mut cycles) = (Guarded::new([0]), Guarded::new([0]));
+    for (length, expected) in [(SAVED_BYTES, cells::FINISHED), (SAVED_BYTES - 1, 34)] {
+        let (lent, state, given) = (&mut memory.cells, &saved.cells[..length], &mut registers.cells);
+        let (total, sum, at) = (&mut steps.cells, &mut cycles.cells, &mut offset.cells);
+        assert_eq!(cells::resume(IMAGE, &LIMITS, &mut marks.cells, lent, state, 9, given, total, sum, at), expected);
+        assert!(marks.is_whole() && memory.is_whole() && saved.is_whole() && registers.is_whole(), "resume, {expected}");
+        assert!(steps.is_whole() && cycles.is_whole() && offset.is_whole(), "resume, {expected}");
+    }
 }
 
 #[test]

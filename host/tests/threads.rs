@@ -3,7 +3,7 @@
 
 use gate_host::cells::{self, LayoutCells};
 use gate_host::{
-    Accepted, Area, Decoded, History, Limits, Refusal, Refused, Registers, Run, Step, Turn, MARKS_ENOUGH, MEMORY_BYTES,
+    Accepted, Area, Decoded, History, Limits, Refusal, Refused, Registers, Resumed, Run, Step, Turn, MARKS_ENOUGH, MEMORY_BYTES,
 };
 use std::sync::Barrier;
 use std::thread;
@@ -50,6 +50,7 @@ struct Outcome {
     start: (Result<Accepted, Refused>, State),
     steps: Vec<(Result<Step, Refusal>, State)>,
     back: State,
+    resume: (Result<Resumed, Refused>, Vec<u16>, State),
     run: (Result<Run, Refusal>, State),
     texts: Vec<Result<Decoded, Refusal>>,
 }
@@ -69,9 +70,13 @@ fn outcome(image: &[u8], limits: &Limits) -> Outcome {
     let steps = (0..12).map(step).collect();
     while history.step_back(&mut memory, &mut registers).expect("the right memory") {}
     let back = state(&registers, &memory);
+    let saved = gate_host::save(&registers, 0).expect("PC and steps of a start");
+    let mut resumed = memory.clone();
+    let resume = gate_host::resume(image, limits, &mut marks, &mut resumed, saved, 1_000);
+    let resume = (resume, marks.clone(), state(&registers, &resumed));
     let run = (gate_host::run(image, limits, &mut memory, &mut registers, 2_000), state(&registers, &memory));
     let texts = (0..image.len()).map(|at| gate_host::decode(&image[at..], 0x8000)).collect();
-    Outcome { layout, check, turn, start, steps, back, run, texts }
+    Outcome { layout, check, turn, start, steps, back, resume, run, texts }
 }
 
 #[test]

@@ -59,7 +59,7 @@ module _ (image : List ℕ) (limits : Limits) (depth need : ℕ → ℕ) (code :
     step-sound p t = let s = stepping p t in record { tracked = step-tracked p t; untrapped = s .untrapped; met = s .met }
 
     -- what is to be shown of a run from p
-    abbrev RunSound : Point → Ran × List ℕ → Type 0
+    abbrev pub RunSound : Point → Ran × List ℕ → Type 0
     RunSound p x =
         All Sound (stepsFrom g (x .0 .steps) p)
         × Untrapped (ranTo (x .0 .answer))
@@ -81,7 +81,7 @@ module _ (image : List ℕ) (limits : Limits) (depth need : ℕ → ℕ) (code :
     more p t (Step.Trap number) u rest h = absurd u
     more p t (Step.Refused number) u rest h = (tt, tt, t)
 
-    run-sound : (budget : ℕ) (p : Point) → Tracked p → RunSound p (ran budget (g .image) (g .limits) (p .state .registers) (p .state .memory))
+    pub run-sound : (budget : ℕ) (p : Point) → Tracked p → RunSound p (ran budget (g .image) (g .limits) (p .state .registers) (p .state .memory))
     unfolding ran noStepsLeft
     run-sound zero p t =
         let number = stepRefusal (g .image) (g .limits) (p .state .memory) in

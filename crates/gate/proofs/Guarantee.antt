@@ -39,12 +39,12 @@ from-rules image bytes limits depth need rules memory size a x y cc calls allowe
 -- of an image that the check accepts, at the depths that it leaves in the marks
 module _ (image : List ℕ) (bytes : Bytes image) (limits : Limits) (marks : List ℕ) (need count : ℕ)
     (accepted : checked image limits marks .0 ≡ Accepted need count) where
-  record AcceptedCode : Type 0 where
-    needs : ℕ → ℕ
-    reported : need ≡ reportedNeed image needs
-    code : CheckedCode image limits (depthIn (checked image limits marks .1)) needs
+  pub record AcceptedCode : Type 0 where
+    pub needs : ℕ → ℕ
+    pub reported : need ≡ reportedNeed image needs
+    pub code : CheckedCode image limits (depthIn (checked image limits marks .1)) needs
 
-  accepted-code : AcceptedCode
+  pub accepted-code : AcceptedCode
   accepted-code =
       let h = accept-sound image limits marks accepted in
       let rules = h .0 .rules in

@@ -25,6 +25,10 @@ use Rattle.turns.specs.Values.{valuesOf as turnValues}
 use Rattle.turns.specs.declared.TurnAnswer.{TurnAnswer}
 use Rattle.turns.specs.declared.TurnValues.{TurnValues}
 use Rattle.gate_c.specs.Cells.{reportCells, registersIn, registerCells, startedBy, startedCells, steppedCells, ranCells}
+use Rattle.resuming.specs.Resuming.{Resumes}
+use Rattle.resuming.specs.Values.{resumeNumber, resumeOffset}
+use Rattle.resuming.specs.declared.Resumed.{Resumed}
+use Rattle.gate_c.specs.Cells.{ResumedInto}
 use Rattle.gate_c.specs.Cells.{recordIn, recordCells, backCells}
 
 pub checked-by : (image marks marks′ : List ℕ) (limits limits′ : Limits) (v : Verdict) (number : ℕ) (report : List ℕ) →
@@ -113,3 +117,16 @@ unfolding ranCells
 ran-by budget image memory memory′ cells limits limits′ given r number cycles out steps same-limits same-registers e k n o s =
     let by-cells = rw (same-limits, same-registers) at e in
     (rw (by-cells, n, o .0, s, rw (same-limits, same-registers) at k), rw by-cells (o .1))
+
+pub resumed-into : {image marks marks′ memory memory′ bytes out : List ℕ} {limits limits′ : Limits} {budget number offset : ℕ} {r : Resumed} →
+    limits ≡ limits′ → Resumes image limits marks memory bytes budget r marks′ memory′ → number ≡ resumeNumber (r .answer) →
+    (out ≡ registerCells (r .registers)) × (registersIn out ≡ r .registers) → offset ≡ resumeOffset (r .answer) →
+    ResumedInto image limits′ marks memory bytes budget marks′ memory′
+    (record { number = number; registers = out; steps = r .steps ∷ []; cycles = r .cycles ∷ []; offset = offset ∷ [] })
+resumed-into {r = r} same resumes number-is registers-are offset-is =
+    record {
+      answer = r;
+      resumes = rw same at resumes;
+      are = rw (number-is, registers-are .0, offset-is);
+      read = registers-are .1;
+    }

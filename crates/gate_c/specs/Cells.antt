@@ -1,5 +1,6 @@
 -- What stands in the cells of a C caller's arrays.
 use Prim.Native.Nat.{ℕ, _+_, _%_}
+use mathlib.Core.Path.{_≡_}
 use mathlib.Core.List.{List, [], _∷_, _++_}
 use lib.ListN.{length, getD, drop, replicate}
 use Rattle.image.specs.declared.Area.{Area}
@@ -13,6 +14,9 @@ use Rattle.records.specs.Recording.{recorded}
 use Rattle.records.specs.Back.{steppedBack}
 use Rattle.records.specs.declared.Record.{Record}
 use Rattle.gate.specs.Start.{Result, started}
+use Rattle.resuming.specs.Resuming.{Resumes}
+use Rattle.resuming.specs.Values.{resumeNumber, resumeOffset}
+use Rattle.resuming.specs.declared.Resumed.{Resumed}
 use Rattle.execution.specs.declared.Registers.{Registers}
 use Rattle.stm8.specs.declared.Instruction.{Instruction}
 use Rattle.stm8.specs.declared.Decoded.{Decoded}
@@ -147,3 +151,28 @@ ranCells budget image limits cells memory =
       cycles = runCycles budget image limits (registersIn cells) memory ∷ [];
       memory = r .1;
     }
+
+pub record ResumeCells : Type 0 where
+  pub number : ℕ
+  pub registers : List ℕ
+  pub steps : List ℕ
+  pub cycles : List ℕ
+  pub offset : List ℕ
+
+abbrev pub resumeCells : Resumed → ResumeCells
+resumeCells r =
+    record {
+      number = resumeNumber (r .answer);
+      registers = registerCells (r .registers);
+      steps = r .steps ∷ [];
+      cycles = r .cycles ∷ [];
+      offset = resumeOffset (r .answer) ∷ [];
+    }
+
+-- resuming into cells, from which the registers are read back as they were
+pub record ResumedInto (image : List ℕ) (limits : Limits) (marks memory bytes : List ℕ) (budget : ℕ) (marks′ memory′ : List ℕ) (cells : ResumeCells) :
+    Type 0 where
+  pub answer : Resumed
+  pub resumes : Resumes image limits marks memory bytes budget answer marks′ memory′
+  pub are : cells ≡ resumeCells answer
+  pub read : registersIn (cells .registers) ≡ answer .registers

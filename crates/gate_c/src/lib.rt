@@ -10,10 +10,11 @@ ghost use Rattle.stm8.specs.Decoding.{decoded, decodingNumber};
 ghost use Rattle.image.specs.Validation.{validationNumber};
 ghost use Rattle.turns.specs.Turn.{turned};
 ghost use Rattle.turns.specs.Values.{valuesOf as turnValues};
+ghost use Rattle.saved_state.specs.Sls.{saved as savedOf};
 ghost use Rattle.layout_cells.specs.Cells.{laidOut, layoutCells};
 ghost use mathlib.Core.List.{[], _∷_};
 ghost use Rattle.gate_c.specs.Cells.{limitsIn, registersIn, registerCells, reportCells, recordIn, recordCells, backCells};
-ghost use Rattle.gate_c.specs.Cells.{decodedLength, textCells, cycleCells, startedBy, startedCells, steppedCells, ranCells};
+ghost use Rattle.gate_c.specs.Cells.{decodedLength, textCells, cycleCells, startedBy, startedCells, steppedCells, ranCells, ResumedInto};
 use decoder::decoding_number;
 use disassembly::disassemble;
 use gate::Area;
@@ -30,7 +31,11 @@ use gate::step_back;
 use gate::step_number;
 use gate::turn;
 use layout_cells::layout_of;
+use resuming::resume;
+use resuming::resume_number;
+use resuming::resume_offset;
 use rules::verdict_number;
+use saved_state::save;
 use stm8::Decoded;
 use timing::decode_timed_for;
 use turns::values_of;
@@ -282,6 +287,52 @@ pub extern "C" fn gate_run(
     run_number(answer)
 }
 
+// Saves registers and steps as a record.
+#[no_mangle]
+pub extern "C" fn gate_save(registers: &[u32; 6], steps: u64, saved: &mut [u8; 19]) -> u8
+    ensures { λ r. ⌜ r ≡ savedOf (registersIn (now (registers .entry))) steps .number ⌝ }
+    ensures { λ _. ⌜ now (saved .exit) ≡ savedOf (registersIn (now (registers .entry))) steps .bytes ⌝ }
+{
+    let record = save(registers_in(registers), steps);
+    let bytes = record.bytes;
+    *saved = bytes;
+    record.number
+}
+
+// Resumes from a record: 17, then the whole check, then 34 and 35; else the run goes on.
+#[no_mangle]
+pub extern "C" fn gate_resume(
+    image: &[u8],
+    limits: &[u16; 6],
+    marks: &mut [u16],
+    memory: &mut [u8],
+    saved: &[u8],
+    budget: u32,
+    registers: &mut [u32; 6],
+    steps: &mut [u64; 1],
+    cycles: &mut [u64; 1],
+    offset: &mut [u16; 1],
+) -> u8
+    ensures { λ r. ⌜
+        ResumedInto (now (image .entry)) (limitsIn (now (limits .entry))) (now (marks .entry)) (now (memory .entry)) (now (saved .entry)) budget
+        (now (marks .exit)) (now (memory .exit))
+        (record {
+          number = r;
+          registers = now (registers .exit);
+          steps = now (steps .exit);
+          cycles = now (cycles .exit);
+          offset = now (offset .exit);
+        }) ⌝ }
+{
+    let resumed = resume(image, limits_in(limits), marks, memory, saved, budget);
+    let answer = resumed.answer;
+    *registers = register_cells(resumed.registers);
+    *steps = [resumed.steps];
+    *cycles = [resumed.cycles];
+    *offset = [resume_offset(answer)];
+    resume_number(answer)
+}
+
 // The text of what was decoded, written where the caller wants it, with 0 after it: no text is longer than 23 letters.
 fn put_text(found: Decoded, address: u16, text: &mut [u8; 24])
     ensures { λ _. ⌜ now (text .exit) ≡ textCells address found ⌝ }
@@ -364,10 +415,10 @@ pub extern "C" fn gate_turn(
     values.number
 }
 
-// The version of this library, 0.3.0: major, minor and patch, a byte each.
+// The version of this library, 0.4.0: major, minor and patch, a byte each.
 #[no_mangle]
 pub extern "C" fn gate_library_version() -> u32
-    ensures { λ r. ⌜ r ≡ 0x000300 ⌝ }
+    ensures { λ r. ⌜ r ≡ 0x000400 ⌝ }
 {
-    0x000300
+    0x000400
 }

@@ -15,6 +15,7 @@ use machine::StepAnswer;
 use numbers::words::byte_at;
 use numbers::words::word_at;
 use vectors::byte_text;
+use vectors::long_at;
 use vectors::put_cells;
 use vectors::registers_of;
 use vectors::registers_text;
@@ -94,7 +95,7 @@ fn run_case(case: &[u8], image: &[u8], memory: &mut [u8]) -> Registers
         limits_of(case),
         registers_of(&case[14..25]),
         memory,
-        word_at(case, 25) as u32 * 65536 + word_at(case, 27) as u32,
+        long_at(case, 25),
     );
     let ran = timed.ran;
     let answer = ran.answer;

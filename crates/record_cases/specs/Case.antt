@@ -1,14 +1,9 @@
 -- A record made by hand as bytes: the size of memory, registers at 2, the count at 13, and twice an address and a value.
-use Prim.Native.Nat.{ℕ, _+_, _*_}
+use Prim.Native.Nat.{ℕ}
 use mathlib.Core.List.{List, [], _∷_}
 use lib.ListN.{getD, take, drop}
-use Rattle.numbers.specs.Words.{wordAt}
 use Rattle.records.specs.declared.Record.{Record}
-use Rattle.vectors.specs.Bytes.{registersOf}
-
--- a number of 32 bits, high byte first
-abbrev pub longAt : List ℕ → ℕ → ℕ
-longAt bytes at = wordAt bytes at * 65536 + wordAt bytes (at + 2)
+use Rattle.vectors.specs.Bytes.{longAt, registersOf}
 
 abbrev pub recordIn : List ℕ → Record
 recordIn bytes =

@@ -5,7 +5,7 @@ ghost use mathlib.Core.Bool.{cond};
 ghost use Prim.Native.Nat.{_≤_};
 ghost use lib.ListN.{length};
 ghost use Rattle.records.specs.Back.{steppedBack};
-ghost use Rattle.record_cases.specs.Case.{longAt, recordIn};
+ghost use Rattle.record_cases.specs.Case.{recordIn};
 use bytes::scan::find;
 use hexadecimal::parse;
 use image::limits_of;
@@ -19,6 +19,7 @@ use records::Record;
 use records::step;
 use records::step_back;
 use vectors::byte_text;
+use vectors::long_at;
 use vectors::put_cells;
 use vectors::registers_of;
 use vectors::registers_text;
@@ -66,14 +67,6 @@ fn print_bytes(r: Record) {
     if r.count > 1 {
         print_cell((addresses[1] % 65536) as u16, values[1]);
     }
-}
-
-// A number of 32 bits, high byte first.
-fn long_at(bytes: &[u8], at: usize) -> u32
-    requires { ⌜ at ≤ 40 ⌝ }
-    ensures { λ r. ⌜ r ≡ longAt (now (bytes .entry)) at ⌝ }
-{
-    word_at(bytes, at) as u32 * 65536 + word_at(bytes, at + 2) as u32
 }
 
 // The record of a case.

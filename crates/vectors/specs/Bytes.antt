@@ -5,6 +5,10 @@ use lib.ListN.{getD, set}
 use Rattle.numbers.specs.Words.{word, wordAt}
 use Rattle.execution.specs.declared.Registers.{Registers}
 
+-- a number of 32 bits
+abbrev pub longAt : List ℕ → ℕ → ℕ
+longAt bytes at = wordAt bytes at * 65536 + wordAt bytes (at + 2)
+
 -- A, X, Y, CC, SP and the three bytes of PC
 abbrev pub registersOf : List ℕ → Registers
 registersOf s =

@@ -3,7 +3,7 @@ ghost use mathlib.Core.Path.{_≡_};
 ghost use Prim.Native.Nat.{_≤_};
 ghost use lib.Seq.{sets};
 ghost use Rattle.notation.specs.Notation.{byteDigits, wordDigits};
-ghost use Rattle.vectors.specs.Bytes.{registersOf, withCells};
+ghost use Rattle.vectors.specs.Bytes.{longAt, registersOf, withCells};
 ghost use Rattle.vectors.specs.Text.{registersText};
 use machine::Registers;
 use notation::hex_digit;
@@ -12,6 +12,17 @@ use numbers::words::high;
 use numbers::words::low;
 use numbers::words::put_byte;
 use numbers::words::word_at;
+
+// A number of 32 bits, high byte first; a byte past the end counts as 0.
+pub fn long_at(bytes: &[u8], at: usize) -> u32
+    ensures { λ r. ⌜ r ≡ longAt (now (bytes .entry)) at ⌝ }
+{
+    if at < bytes.len() {
+        word_at(bytes, at) as u32 * 65536 + word_at(bytes, at + 2) as u32
+    } else {
+        0
+    }
+}
 
 // Registers from eleven bytes: A, X, Y, CC, SP and PC, high byte first.
 pub fn registers_of(bytes: &[u8]) -> Registers

@@ -6,12 +6,17 @@ use std::fs::File;
 use std::io::Read;
 use std::path::Path;
 
-/// More bytes than any image has. What is longer is no image, and is not read to its end, which may be far away.
-const IMAGE_BYTES: u64 = 1 << 16;
+/// More bytes than any image or saved state has. What is longer is neither, and is not read to its end, which may be far away.
+const MOST_BYTES: u64 = 1 << 16;
 
 /// The bytes of an image's file.
 pub fn image(path: &OsStr) -> Result<Vec<u8>, Trouble> {
-    bytes(path, IMAGE_BYTES)
+    bytes(path, MOST_BYTES)
+}
+
+/// The bytes of a saved state's file.
+pub fn saved(path: &OsStr) -> Result<Vec<u8>, Trouble> {
+    bytes(path, MOST_BYTES)
 }
 
 /// The bytes of a file that has so many at most.

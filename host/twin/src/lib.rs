@@ -11,6 +11,7 @@ mod image;
 mod machine;
 pub mod random;
 mod record;
+mod saved;
 pub mod slu;
 mod text;
 mod turn;
@@ -21,5 +22,6 @@ pub use decode::{decode, Alu, Bit, Half, Index, Instruction, Modify, Place, Sour
 pub use image::{granted, holds, validate, Image};
 pub use machine::{run, start, step};
 pub use record::step_back;
+pub use saved::{resume, save, Resumed};
 pub use text::text;
 pub use turn::turn;

@@ -1,10 +1,13 @@
 //! The conformance corpus: each line of its files, printed anew by the library and by the twin, is the line. `conformance/README.md`
 //! says what a line is.
 
+mod resumes;
+
 use gate_host::{
     Accepted, Area, Ending, Limits, Overwritten, Record, Refusal, Refused, Registers, Run, Step, Turn, MEMORY_BYTES,
 };
 use gate_twin as twin;
+use resumes::{Answer, Saved};
 use std::fmt::Write;
 use std::fs;
 use std::path::{Path, PathBuf};
@@ -13,6 +16,7 @@ type Verdict = Result<Accepted, Refused>;
 type Turned = Result<Turn, Refused>;
 type Ran = Result<Run, Refusal>;
 type Starter = fn(&[u8], &Limits, &mut [u16], &mut [u8], &mut Registers) -> Verdict;
+type Resumer = fn(&[u8], &Limits, &mut [u16], &mut [u8], &[u8], u32) -> Answer;
 type Stepper = fn(&[u8], &Limits, &mut [u8], &mut Registers) -> (Result<Step, Refusal>, Record);
 
 /// The calls of a loader.
@@ -23,6 +27,8 @@ struct Loader {
     step: Stepper,
     step_back: fn(&Record, &mut [u8], &mut Registers) -> Result<(), Refusal>,
     run: fn(&[u8], &Limits, &mut [u8], &mut Registers, u32) -> Ran,
+    save: fn(&Registers, u64) -> Saved,
+    resume: Resumer,
 }
 
 const LIBRARY: Loader = Loader {
@@ -32,6 +38,8 @@ const LIBRARY: Loader = Loader {
     step: gate_host::step,
     step_back: gate_host::step_back,
     run: gate_host::run,
+    save: resumes::library_save,
+    resume: resumes::library_resume,
 };
 const TWIN: Loader = Loader {
     check: twin::check,
@@ -40,6 +48,8 @@ const TWIN: Loader = Loader {
     step: twin::step,
     step_back: twin::step_back,
     run: twin::run,
+    save: resumes::twin_save,
+    resume: resumes::twin_resume,
 };
 
 /// The bytes of a case that are still to be read.
@@ -80,7 +90,8 @@ impl Fields {
         Registers { sp: self.word(), pc: u32::from(self.byte()) << 16 | u32::from(self.word()), ..first }
     }
 
-    fn image(&mut self) -> Vec<u8> {
+    /// Bytes with their number before them.
+    fn counted(&mut self) -> Vec<u8> {
         let length = self.byte();
         self.0.by_ref().take(length.into()).collect()
     }
@@ -240,7 +251,7 @@ struct Stepped {
 
 fn stepped(loader: &Loader, mut fields: Fields) -> Stepped {
     let (limits, length) = (fields.limits(), fields.word());
-    let (mut after, image) = (fields.registers(), fields.image());
+    let (mut after, image) = (fields.registers(), fields.counted());
     let before = fields.cells(length);
     let mut memory = before.clone();
     let (answer, record) = (loader.step)(&image, &limits, &mut memory.bytes, &mut after);
@@ -260,11 +271,37 @@ fn step(loader: &Loader, fields: Fields) -> String {
 
 fn run(loader: &Loader, mut fields: Fields) -> String {
     let (limits, length) = (fields.limits(), fields.word());
-    let (mut after, budget, image) = (fields.registers(), fields.long(), fields.image());
+    let (mut after, budget, image) = (fields.registers(), fields.long(), fields.counted());
     let mut memory = fields.cells(length);
     let answer = (loader.run)(&image, &limits, &mut memory.bytes, &mut after, budget);
     let cycles = answer.map_or(0, |run| run.cycles);
     format!("{}, cycles {cycles}: {}{}", ran(&answer), registers(&after), memory.cells())
+}
+
+fn save(loader: &Loader, mut fields: Fields) -> String {
+    let (registers, high, low) = (fields.registers(), fields.long(), fields.long());
+    let (number, saved) = (loader.save)(&registers, u64::from(high) << 32 | u64::from(low));
+    let saved: String = saved.iter().map(|byte| format!("{byte:02X}")).collect();
+    match number {
+        0 => format!("saved {saved}"),
+        _ => format!("refused {number}, {saved}"),
+    }
+}
+
+fn resume(loader: &Loader, mut fields: Fields) -> String {
+    let limits = fields.limits();
+    let mut marks = vec![9; fields.byte().into()];
+    let length = fields.word();
+    let (saved, budget, image) = (fields.counted(), fields.long(), fields.counted());
+    let mut memory = fields.cells(length);
+    let answer = (loader.resume)(&image, &limits, &mut marks, &mut memory.bytes, &saved, budget);
+    let ending = match answer.number {
+        64 => "finished".to_string(),
+        65 => "spent".to_string(),
+        number => format!("refused {number} {}", answer.offset),
+    };
+    let Answer { steps, cycles, registers: after, .. } = answer;
+    with_marks(format!("{ending} after {steps}, cycles {cycles}: {}{}", registers(&after), memory.cells()), &marks)
 }
 
 fn ran(answer: &Ran) -> String {
@@ -318,6 +355,8 @@ fn replayed(loader: &Loader, line: &str) -> String {
         Some("run") => run,
         Some("record") => record,
         Some("back") => back,
+        Some("save") => save,
+        Some("resume") => resume,
         kind => panic!("{kind:?} is no kind of case"),
     };
     format!("{}= {}", &line[..given], answer_of(loader, Fields::of(case)))

@@ -1,8 +1,8 @@
 //! The examples of docs/FORMAT.md, read out of it and put through the library. The document says how a line of cases is read.
 
 use gate_host::{
-    check, decode, run, start, step, step_back, turn, Accepted, Area, Ending, Limits, Overwritten, Record, Refused, Registers,
-    Run, Step, Turn, MARKS_ENOUGH, MEMORY_BYTES,
+    check, decode, resume, run, save, start, step, step_back, turn, Accepted, Area, Ending, Limits, Overwritten, Record, Refused,
+    Registers, Run, Step, Turn, MARKS_ENOUGH, MEMORY_BYTES,
 };
 use gate_twin::slu;
 use std::collections::BTreeSet;
@@ -26,6 +26,11 @@ fn number(digits: &str) -> u32 {
 
 fn bytes(text: &str) -> Vec<u8> {
     text.split_whitespace().filter(|digits| *digits != "none").map(|digits| number(digits) as u8).collect()
+}
+
+/// Bytes as digits without spaces.
+fn row(digits: &str) -> Vec<u8> {
+    (0..digits.len() / 2).map(|at| number(&digits[2 * at..2 * at + 2]) as u8).collect()
 }
 
 fn area(low: u32, high: u32) -> Area {
@@ -87,6 +92,8 @@ struct Case<'a> {
     registers: Registers,
     budget: u32,
     count: u32,
+    steps: u64,
+    saved: Option<Vec<u8>>,
     expected: &'a str,
 }
 
@@ -94,7 +101,7 @@ impl<'a> Case<'a> {
     fn read(line: &'a str) -> Case<'a> {
         let (given, expected) = line.split_once(" -> ").expect("an answer");
         let (call, settings) = given.split_once(" with ").unwrap_or((given, ""));
-        let (verb, bytes) = call.split_once(' ').expect("a verb and bytes");
+        let (verb, bytes) = call.split_once(' ').unwrap_or((call, ""));
         let mut case = Case {
             verb,
             bytes,
@@ -106,6 +113,8 @@ impl<'a> Case<'a> {
             registers: Registers::default(),
             budget: 0,
             count: bytes.split(' ').count() as u32,
+            steps: 0,
+            saved: None,
             expected,
         };
         if verb != "start" {
@@ -132,8 +141,11 @@ impl<'a> Case<'a> {
             "memory" => self.memory.truncate(decimal() as usize),
             "budget" => self.budget = decimal(),
             "count" => self.count = decimal(),
+            "steps" => self.steps = value.parse().expect("decimal"),
+            "saved" => self.saved = Some(row(value)),
             "A" => self.registers.a = number(value) as u8,
             "X" => self.registers.x = number(value) as u16,
+            "Y" => self.registers.y = number(value) as u16,
             "CC" => self.registers.cc = number(value) as u8,
             "SP" => self.registers.sp = number(value) as u16,
             "PC" => self.registers.pc = number(value),
@@ -163,6 +175,8 @@ impl<'a> Case<'a> {
             "start" => self.started(),
             "step" => self.stepped(),
             "run" => self.ran(),
+            "save" => self.saved(),
+            "resume" => self.resumed(),
             "back" => self.gone_back(),
             "decode" => self.decoded(),
             other => panic!("{other}: no such verb"),
@@ -235,6 +249,40 @@ impl<'a> Case<'a> {
             Ending::Trapped(trap) => format!("trap {}", trap.number()),
         };
         format!("{ending}{changes} steps={steps} cycles={cycles}")
+    }
+
+    fn saved(&self) -> String {
+        match save(&self.registers, self.steps) {
+            Ok(saved) => format!("saved {}", saved.to_bytes().map(|byte| format!("{byte:02X}")).concat()),
+            Err(refusal) => format!("refused {}", refusal.number()),
+        }
+    }
+
+    /// The bytes of the saved state: those that are given, or those of the registers and steps, by the document's table.
+    fn state(&self) -> Vec<u8> {
+        let Registers { a, x, y, cc, sp, pc } = self.registers;
+        let word = u16::to_be_bytes;
+        let laid_out = || {
+            let parts = [&b"SLS\x00\x01"[..], &word(pc as u16), &word(sp), &[a], &word(x), &word(y), &[cc]];
+            [&parts.concat()[..], &(self.steps as u32).to_be_bytes()].concat()
+        };
+        self.saved.clone().unwrap_or_else(laid_out)
+    }
+
+    fn resumed(&self) -> String {
+        let (mut memory, mut marks) = (self.memory.clone(), vec![MARK; self.marks]);
+        let answer = match resume(&self.image(), &self.limits, &mut marks, &mut memory, self.state(), self.budget) {
+            Ok(resumed) => {
+                let ending = if resumed.finished { "finished" } else { "spent" };
+                let changes = self.changes(&resumed.registers, &memory);
+                format!("{ending}{changes} steps={} cycles={}", resumed.steps, resumed.cycles)
+            }
+            Err(why) => {
+                assert!(memory == self.memory);
+                refused(&why)
+            }
+        };
+        self.with_marks(answer, &marks)
     }
 
     fn gone_back(&self) -> String {

@@ -1,5 +1,7 @@
 //! A trace for scripts: one JSON object a line. Numbers are decimal, as JSON has no others.
 
+use super::begin::{Begun, How};
+use super::files::Files;
 use super::machine::{Move, Totals};
 use super::{End, Printer, FLAGS};
 use gate_host::{Accepted, Refused, Registers};
@@ -13,10 +15,13 @@ impl Printer for Json {
         writeln!(out, "{{\"kind\":\"refused\",\"number\":{number},\"offset\":{},\"text\":{text}}}", refused.offset)
     }
 
-    fn started(&self, out: &mut dyn Write, accepted: &Accepted, registers: &Registers) -> io::Result<()> {
-        let (Accepted { need, count }, flags) = (accepted, flags(registers.cc));
-        let registers = object(registers);
-        writeln!(out, "{{\"kind\":\"start\",\"need\":{need},\"count\":{count},\"registers\":{registers},\"flags\":{flags}}}")
+    fn begun(&self, out: &mut dyn Write, begun: &Begun) -> io::Result<()> {
+        let (registers, flags) = (object(&begun.registers), flags(begun.registers.cc));
+        let how = match begun.how {
+            How::Started(Accepted { need, count }) => format!("\"kind\":\"start\",\"need\":{need},\"count\":{count}"),
+            How::Resumed(steps) => format!("\"kind\":\"resume\",\"steps\":{steps}"),
+        };
+        writeln!(out, "{{{how},\"registers\":{registers},\"flags\":{flags}}}")
     }
 
     fn made(&self, out: &mut dyn Write, made: &Move) -> io::Result<()> {
@@ -27,6 +32,7 @@ impl Printer for Json {
         let (end, text) = match end {
             End::Finished => ("finished", None),
             End::Steps | End::DefaultSteps => ("steps", None),
+            End::Total => ("total", None),
             End::Break => ("break", None),
             End::Trapped(answer) => ("trapped", Some(answer)),
         };
@@ -40,6 +46,16 @@ impl Printer for Json {
 
     fn back(&self, out: &mut dyn Write, registers: &Registers, totals: &Totals) -> io::Result<()> {
         ending(out, "back", "", registers, totals)
+    }
+
+    fn written(&self, out: &mut dyn Write, files: &Files) -> io::Result<()> {
+        let named = [("state", &files.state), ("memory", &files.memory)];
+        let named = named.into_iter().filter_map(|(name, file)| Some((name, file.as_ref()?)));
+        let names: String = named.map(|(name, file)| format!(",\"{name}\":{}", string(&file.display().to_string()))).collect();
+        match names.is_empty() {
+            true => Ok(()),
+            false => writeln!(out, "{{\"kind\":\"saved\"{names}}}"),
+        }
     }
 }
 
@@ -66,7 +82,7 @@ fn moved(out: &mut dyn Write, kind: &str, moved: &Move) -> io::Result<()> {
 }
 
 fn ending(out: &mut dyn Write, end: &str, text: &str, registers: &Registers, totals: &Totals) -> io::Result<()> {
-    let (pc, Totals { steps, cycles }) = (registers.pc, totals);
+    let (pc, Totals { steps, cycles, .. }) = (registers.pc, totals);
     writeln!(out, "{{\"kind\":\"end\",\"end\":\"{end}\"{text},\"address\":{pc},\"steps\":{steps},\"sum\":{cycles}}}")
 }
 

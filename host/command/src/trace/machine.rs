@@ -1,13 +1,28 @@
 //! The routine as it runs, forth and back.
 
-use gate_host::{decode, step, step_back, Layout, Limits, Record, Registers, Step, Text, TEXT_BYTES};
+use super::begin::{Begun, How};
+use gate_host::{decode, save, step, step_back, Layout, Limits, Record, Refusal, Registers, SavedState, Step, Text, TEXT_BYTES};
 use std::collections::VecDeque;
 
+/// The largest total of steps: a saved state holds no more, and a resumed run is spent there.
+pub const MOST_STEPS: u64 = 4_294_967_295;
+
 /// The steps made so far, those gone back over taken off.
-#[derive(Clone, Copy, Debug, Default)]
+#[derive(Clone, Copy, Debug)]
 pub struct Totals {
+    /// Since the start, those before the saved state too.
     pub steps: u64,
+    /// Those of this trace alone.
     pub cycles: u64,
+    /// The steps of the saved state, where the trace is resumed from one.
+    pub resumed: Option<u64>,
+}
+
+impl Totals {
+    /// The steps of this trace alone.
+    pub fn made(&self) -> u64 {
+        self.steps - self.resumed.unwrap_or(0)
+    }
 }
 
 /// A step, or the way back over one.
@@ -49,16 +64,30 @@ pub struct Machine<'a> {
 }
 
 impl<'a> Machine<'a> {
-    /// One as a start left it.
+    /// One as a start or a saved state has it.
     pub fn new(
         image: &'a [u8],
         limits: &'a Limits,
         layout: Layout<'a>,
         memory: Vec<u8>,
-        registers: Registers,
+        begun: &Begun,
         kept: u64,
     ) -> Machine<'a> {
-        Machine { image, limits, layout, memory, registers, totals: Totals::default(), past: VecDeque::new(), kept }
+        let resumed = match begun.how {
+            How::Started(_) => None,
+            How::Resumed(steps) => Some(steps),
+        };
+        let totals = Totals { steps: resumed.unwrap_or(0), cycles: 0, resumed };
+        Machine { image, limits, layout, memory, registers: begun.registers, totals, past: VecDeque::new(), kept }
+    }
+
+    pub fn memory(&self) -> &[u8] {
+        &self.memory
+    }
+
+    /// Where it stands, as a saved state.
+    pub fn saved(&self) -> Result<SavedState, Refusal> {
+        save(&self.registers, self.totals.steps)
     }
 
     /// Makes a step, or gives the library's answer in words where it makes none.
@@ -71,7 +100,8 @@ impl<'a> Machine<'a> {
             Ok(Step::Finished) => return Err(gate_host::number_text(gate_host::cells::FINISHED).into()),
             Err(refusal) => return Err(refusal.to_string()),
         };
-        self.totals = Totals { steps: self.totals.steps + 1, cycles: self.totals.cycles + cycles };
+        self.totals.steps += 1;
+        self.totals.cycles += cycles;
         let bytes = overwritten(&record).map(|(address, before)| Byte { address, before, after: self.byte(address) }).collect();
         self.keep(Past { record, cycles });
         let (from, to, totals) = (record.registers, self.registers, self.totals);
@@ -88,7 +118,8 @@ impl<'a> Machine<'a> {
         for byte in &mut bytes {
             byte.after = self.byte(byte.address);
         }
-        self.totals = Totals { steps: self.totals.steps - 1, cycles: self.totals.cycles - cycles };
+        self.totals.steps -= 1;
+        self.totals.cycles -= cycles;
         let to = self.registers;
         Some(Move { address: to.pc, text: self.text(to.pc), from, to, bytes, cycles, totals: self.totals })
     }

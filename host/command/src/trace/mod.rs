@@ -1,5 +1,7 @@
-//! `gate trace`: starts a routine and prints each step.
+//! `gate trace`: starts a routine, or resumes it, and prints each step.
 
+mod begin;
+mod files;
 mod json;
 mod machine;
 mod options;
@@ -9,8 +11,10 @@ use crate::args::{flag, with_value, Opt, Words};
 use crate::limits::limits;
 use crate::trouble::Trouble;
 use crate::{source, Command, Outcome};
-use gate_host::{layout, start, Accepted, Refused, Registers, MARKS_ENOUGH};
-use machine::{Machine, Move, Totals};
+use begin::{Begin, Begun};
+use files::Files;
+use gate_host::{layout, Refused, Registers, MARKS_ENOUGH};
+use machine::{Machine, Move, Totals, MOST_STEPS};
 use options::Plan;
 use std::io::{self, Write};
 
@@ -23,8 +27,11 @@ const OPTIONS: &[Opt] = &[
     with_value("--steps"),
     with_value("--registers"),
     with_value("--memory"),
+    with_value("--resume"),
     with_value("--break"),
     with_value("--back"),
+    with_value("--save"),
+    with_value("--memory-out"),
     flag("--json"),
 ];
 
@@ -39,6 +46,8 @@ pub enum End {
     Steps,
     /// As many as are made where none are asked for.
     DefaultSteps,
+    /// The total is the largest that there is.
+    Total,
     Break,
     /// The next step is not made, and this is the library's answer in words.
     Trapped(String),
@@ -47,29 +56,33 @@ pub enum End {
 /// How a trace is printed.
 trait Printer {
     fn refused(&self, out: &mut dyn Write, refused: &Refused) -> io::Result<()>;
-    fn started(&self, out: &mut dyn Write, accepted: &Accepted, registers: &Registers) -> io::Result<()>;
+    fn begun(&self, out: &mut dyn Write, begun: &Begun) -> io::Result<()>;
     fn made(&self, out: &mut dyn Write, made: &Move) -> io::Result<()>;
     fn ended(&self, out: &mut dyn Write, end: &End, registers: &Registers, totals: &Totals) -> io::Result<()>;
     fn gone_back(&self, out: &mut dyn Write, undone: &Move) -> io::Result<()>;
     fn back(&self, out: &mut dyn Write, registers: &Registers, totals: &Totals) -> io::Result<()>;
+    fn written(&self, out: &mut dyn Write, files: &Files) -> io::Result<()>;
 }
 
 fn run(words: &Words, out: &mut dyn Write) -> Result<Outcome, Trouble> {
     let limits = limits(words)?;
     let plan = Plan::read(words)?;
-    let mut registers = options::registers(words)?;
+    let files = Files::read(words)?;
+    let begin = Begin::read(words)?;
     let mut memory = options::memory(words)?;
     let image = source::image(words.only_image()?)?;
     let printer: &dyn Printer = if words.given("--json") { &json::Json } else { &plain::Plain };
     let mut marks = [0; MARKS_ENOUGH];
-    let started = start(&image, &limits, &mut marks, &mut memory, &mut registers);
-    match started.and_then(|accepted| Ok((accepted, layout(&image)?))) {
-        Ok((accepted, layout)) => {
+    let begun = begin.begin(&image, &limits, &mut marks, &mut memory);
+    match begun.and_then(|begun| Ok((begun, layout(&image)?))) {
+        Ok((begun, layout)) => {
             plan.fits(&layout, &marks)?;
-            printer.started(out, &accepted, &registers)?;
-            let mut machine = Machine::new(&image, &limits, layout, memory, registers, plan.back);
+            printer.begun(out, &begun)?;
+            let mut machine = Machine::new(&image, &limits, layout, memory, &begun, plan.back);
             let outcome = forth(&mut machine, &plan, printer, out)?;
             back(&mut machine, &plan, printer, out)?;
+            files.write(&machine)?;
+            printer.written(out, &files)?;
             Ok(outcome)
         }
         Err(refused) => {
@@ -84,10 +97,15 @@ fn forth(machine: &mut Machine, plan: &Plan, printer: &dyn Printer, out: &mut dy
         if machine.registers.pc == 0 {
             break End::Finished;
         }
-        if plan.breaks.iter().any(|&address| u32::from(address) == machine.registers.pc) {
+        // A break at which it was paused does not stop it there again.
+        let paused_here = machine.totals.resumed == Some(machine.totals.steps);
+        if !paused_here && plan.breaks.iter().any(|&address| u32::from(address) == machine.registers.pc) {
             break End::Break;
         }
-        if machine.totals.steps == plan.steps {
+        if machine.totals.steps == MOST_STEPS {
+            break End::Total;
+        }
+        if machine.totals.made() == plan.steps {
             break if plan.default_steps { End::DefaultSteps } else { End::Steps };
         }
         match machine.step() {
@@ -96,8 +114,9 @@ fn forth(machine: &mut Machine, plan: &Plan, printer: &dyn Printer, out: &mut dy
         }
     };
     printer.ended(out, &end, &machine.registers, &machine.totals)?;
-    // The guarantee is that a started routine does not trap, whatever registers and memory it was started with: all of
-    // these went through the start, and nothing but its own steps has written since. Should one trap, the status says it.
+    // The guarantee is that a routine that was started, or resumed from a good state, does not trap, whatever registers and memory
+    // it was begun with: all of these went through the start or the resume, and nothing but its own steps has written since. Should
+    // one trap, the status says it.
     Ok(if matches!(end, End::Trapped(_)) { Outcome::Refused } else { Outcome::Good })
 }
 

@@ -1,8 +1,10 @@
 //! A trace as text that can be compared line by line.
 
-use super::machine::{Move, Totals};
+use super::begin::{Begun, How};
+use super::files::Files;
+use super::machine::{Move, Totals, MOST_STEPS};
 use super::{End, Printer, FLAGS};
-use gate_host::{Accepted, Refused, Registers};
+use gate_host::{Refusal, Refused, Registers};
 use std::fmt::Write as _;
 use std::io::{self, Write};
 
@@ -12,12 +14,21 @@ pub struct Plain;
 
 impl Printer for Plain {
     fn refused(&self, out: &mut dyn Write, refused: &Refused) -> io::Result<()> {
-        writeln!(out, "{refused}")
+        writeln!(out, "{refused}")?;
+        match refused.refusal {
+            Refusal::NotSls => writeln!(out, "  To do: give --resume a file that --save wrote"),
+            Refusal::NotGood => writeln!(out, "  To do: give the image, the limits and the memory that it was saved with"),
+            _ => Ok(()),
+        }
     }
 
-    fn started(&self, out: &mut dyn Write, _: &Accepted, registers: &Registers) -> io::Result<()> {
-        let state = state(registers, registers);
-        writeln!(out, "{HEADING}\n     {:20} {}", "(start)", state.trim_end())
+    fn begun(&self, out: &mut dyn Write, begun: &Begun) -> io::Result<()> {
+        let state = state(&begun.registers, &begun.registers);
+        let how = match begun.how {
+            How::Started(_) => "(start)",
+            How::Resumed(_) => "(resumed)",
+        };
+        writeln!(out, "{HEADING}\n     {how:20} {}", state.trim_end())
     }
 
     fn made(&self, out: &mut dyn Write, made: &Move) -> io::Result<()> {
@@ -29,11 +40,12 @@ impl Printer for Plain {
         match end {
             End::Finished => write!(out, "finished")?,
             End::Steps => write!(out, "stopped before {pc:04X}, as --steps says")?,
-            End::DefaultSteps => write!(out, "stopped before {pc:04X}, since --steps {} is the default", totals.steps)?,
+            End::DefaultSteps => write!(out, "stopped before {pc:04X}, since --steps {} is the default", totals.made())?,
+            End::Total => write!(out, "stopped before {pc:04X}, since a total of {MOST_STEPS} steps is the most")?,
             End::Break => write!(out, "break before {pc:04X}")?,
             End::Trapped(answer) => write!(out, "{answer}, before {pc:04X}")?,
         }
-        writeln!(out, ": steps {}, cycles {}", totals.steps, totals.cycles)
+        writeln!(out, ": {}", sums(totals))
     }
 
     fn gone_back(&self, out: &mut dyn Write, undone: &Move) -> io::Result<()> {
@@ -41,7 +53,23 @@ impl Printer for Plain {
     }
 
     fn back(&self, out: &mut dyn Write, registers: &Registers, totals: &Totals) -> io::Result<()> {
-        writeln!(out, "back before {:04X}: steps {}, cycles {}", registers.pc, totals.steps, totals.cycles)
+        writeln!(out, "back before {:04X}: {}", registers.pc, sums(totals))
+    }
+
+    fn written(&self, out: &mut dyn Write, files: &Files) -> io::Result<()> {
+        match (&files.state, &files.memory) {
+            (Some(state), Some(memory)) => writeln!(out, "saved in {}, and the memory in {}", state.display(), memory.display()),
+            (None, Some(memory)) => writeln!(out, "the memory is in {}", memory.display()),
+            _ => Ok(()),
+        }
+    }
+}
+
+fn sums(totals: &Totals) -> String {
+    let (steps, cycles) = (totals.steps, totals.cycles);
+    match totals.resumed {
+        None => format!("steps {steps}, cycles {cycles}"),
+        Some(_) => format!("steps {steps} in all; since resumed steps {}, cycles {cycles}", totals.made()),
     }
 }
 

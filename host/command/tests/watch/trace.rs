@@ -9,11 +9,11 @@ use gate_twin::slu;
 
 const IMAGES: u64 = 400;
 
-const LIMITS: Limits =
+pub const LIMITS: Limits =
     Limits { grant: Area { low: 0x0000, high: 0x00FF }, stack: Area { low: 0x0300, high: 0x03FF }, second: Area::NONE };
 
 /// Levels, heads and openings for the examples, which share their addresses.
-fn levels() -> Vec<u8> {
+pub fn levels() -> Vec<u8> {
     let mut memory = vec![0; MEMORY_BYTES];
     memory[0x10..0x1F]
         .copy_from_slice(&[0x90, 0x62, 0x20, 0x00, 0x18, 0x00, 0x04, 0x03, 0x80, 0x40, 0x00, 0x44, 0x00, 0x8A, 0x61]);

@@ -7,6 +7,7 @@ use crate::memories::{Memories, BLANK};
 use crate::met::Met;
 use crate::program::{Case, Known};
 use crate::records::Records;
+use crate::resumes::Resumes;
 use crate::shape::Shape;
 use crate::turns::Turns;
 use crate::versions::Versions;
@@ -41,6 +42,8 @@ pub struct Tally {
     pub step: Answers,
     pub step_back: Answers,
     pub run: Answers,
+    pub save: Answers,
+    pub resume: Answers,
     pub decode: Answers,
     /// The steps that runs made.
     pub run_steps: u64,
@@ -53,6 +56,7 @@ pub struct Tally {
     pub timing: Met<Timing>,
     pub records: Met<Records>,
     pub turns: Met<Turns>,
+    pub resumes: Met<Resumes>,
     /// Trap 22: PC not in the code, bytes that run out, a call whose next address is 10000.
     pub trap_22: [u64; 3],
 }

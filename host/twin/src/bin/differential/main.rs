@@ -4,22 +4,26 @@
 //!
 //! Cases are made until at least N checks were compared, and N single steps that were made. A difference prints the seed, the
 //! case and both answers, and `--seed S --case K` makes that case again. The exit status is 1 where something differs, or where
-//! some answer, or something that W-201, W-202, W-205, W-206, W-210 or W-212 decides on, was never met, a second grant in less than
-//! half of the cases, or a version in less than a third.
+//! some answer, or something that W-201, W-202, W-205, W-206, W-208, W-210 or W-212 decides on, was never met, a second grant in less
+//! than half of the cases, or a version in less than a third.
 
 mod back;
 mod compare;
 mod cycles;
 mod damage;
 mod flow;
+mod frames;
 mod generator;
 mod limits;
 mod memories;
 mod met;
 mod nested;
 mod pair;
+mod pauses;
 mod program;
 mod records;
+mod resumes;
+mod saved;
 mod shape;
 mod stretch;
 mod trial;
@@ -136,6 +140,8 @@ fn print(options: &Options, cases: u64, templates: &[Template], tally: &Tally) -
     missing |= row("step", &tally.step, [OK, 1, 2, 3, 4, 17, 21, 22, 23, 24, 25, FINISHED]);
     missing |= row("step back", &tally.step_back, [OK, 17, 26]);
     missing |= row("run", &tally.run, [1, 2, 3, 4, 17, 21, 22, 23, 24, 25, FINISHED, SPENT]);
+    missing |= row("save", &tally.save, [OK, 35]);
+    missing |= row("resume", &tally.resume, (1..=17).chain([34, 35, FINISHED, SPENT]));
     missing |= row("decode", &tally.decode, [OK, 8, 9]);
     for (shape, times) in Shape::ALL.iter().zip(tally.shapes) {
         println!("images with {}: {times}", shape.name());
@@ -146,6 +152,7 @@ fn print(options: &Options, cases: u64, templates: &[Template], tally: &Tally) -
     missing |= tally.timing.print();
     missing |= tally.records.print();
     missing |= tally.turns.print();
+    missing |= tally.resumes.print();
     let [pc, bytes, call] = tally.trap_22;
     println!("trap 22 of steps: PC {pc}, bytes {bytes}, call before 10000 {call}");
     println!("steps made in runs: {}", tally.run_steps);

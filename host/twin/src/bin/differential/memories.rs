@@ -78,6 +78,20 @@ impl Memories {
         self.told.copy_from_slice(&self.library[..MEMORY_BYTES]);
     }
 
+    /// Others write two bytes.
+    pub fn put(&mut self, address: u16, bytes: [u8; 2]) {
+        let at = usize::from(address);
+        for memory in [&mut self.library, &mut self.twin, &mut self.told] {
+            memory[at..at + 2].copy_from_slice(&bytes);
+        }
+    }
+
+    /// Two bytes as they are.
+    pub fn get(&self, address: u16) -> [u8; 2] {
+        let at = usize::from(address);
+        [self.library[at], self.library[at + 1]]
+    }
+
     /// The memory as it is now.
     pub fn kept(&self) -> Vec<u8> {
         self.told.clone()

@@ -115,13 +115,13 @@ impl Generator<'_> {
     }
 
     /// Adds a call of the routine at `callee`, by CALLR too where that can be.
-    fn call_of(&mut self, program: &mut Program, routine: &mut Routine, callee: usize) {
+    pub fn call_of(&mut self, program: &mut Program, routine: &mut Routine, callee: usize) {
         if program.version == 1 && program.nearby().contains(&callee) && self.random.one_in(2) {
             let offset = program.callr(callee);
-            routine.add(program, &[CALLR, offset], 0);
+            routine.add(program, &[CALLR, offset], routine.depth);
         } else {
             program.call(callee);
-            routine.add(program, &[0xCD, 0, 0], 0);
+            routine.add(program, &[0xCD, 0, 0], routine.depth);
         }
     }
 }

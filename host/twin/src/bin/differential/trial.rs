@@ -6,6 +6,7 @@ use crate::generator::{Generator, Template};
 use crate::limits::Second;
 use crate::memories::Memories;
 use crate::pair::Pair;
+use crate::pauses::Pauses;
 use crate::program::{Case, Jumps};
 use crate::random::Random;
 use crate::stretch::Stretch;
@@ -29,7 +30,7 @@ impl<'a> Trial<'a> {
         let memories = Memories::new(random);
         let version = random.pick(&[1, 2]);
         let mut make = Generator { random, templates, version };
-        let case = match make.random.below(25) {
+        let case = match make.random.below(26) {
             0 => make.border(),
             1 => make.bordering(),
             2 => make.relative(),
@@ -39,6 +40,7 @@ impl<'a> Trial<'a> {
             11 => make.accepted(Jumps::Forward),
             12 => make.accepted(Jumps::None),
             13..=14 => make.nested(),
+            15 => make.deep(),
             _ => make.accepted(Jumps::Any),
         };
         Trial { make, tally, memories, case, call: String::new() }
@@ -54,6 +56,7 @@ impl<'a> Trial<'a> {
         }
         self.started()?;
         self.within_turn()?;
+        self.saved_states()?;
         self.anywhere(30)?;
         self.both_versions()?;
         let sound = self.case.clone();
@@ -63,6 +66,7 @@ impl<'a> Trial<'a> {
             if self.make.random.one_in(4) {
                 self.started()?;
                 self.within_turn()?;
+                self.saved_states()?;
             }
             self.anywhere(6)?;
             if self.make.random.one_in(8) {
@@ -130,6 +134,14 @@ impl<'a> Trial<'a> {
         let (_, registers) = compare::start(&self.case, &marks, &mut self.memories, MEMORY_BYTES, given, self.tally)?;
         let started = Started { case: &self.case, registers, memories: &self.memories };
         started.within(turn, self.make.random, self.tally)
+    }
+
+    /// Saved states of it, good ones and others, after a start with any registers and by hand.
+    fn saved_states(&mut self) -> Compared<()> {
+        let (marks, given, wrong_size) = (self.marks(), self.registers(), self.wrong_size());
+        self.call = format!("saved states, registers {given:04X?}");
+        let Trial { make, tally, memories, case, .. } = self;
+        Pauses { make, tally, memories, case, marks }.whole(given, wrong_size)
     }
 
     /// Single steps from any registers, and a run.

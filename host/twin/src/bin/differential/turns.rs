@@ -186,7 +186,7 @@ impl Started<'_> {
 }
 
 /// Budgets that add up to `turn`, some of them 0, and not too many.
-fn pieces(turn: u32, random: &mut Random) -> Vec<u32> {
+pub fn pieces(turn: u32, random: &mut Random) -> Vec<u32> {
     let most = (turn as usize / 16).max(random.between(1, 7));
     let mut pieces = Vec::new();
     let mut left = turn as usize;

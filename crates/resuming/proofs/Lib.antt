@@ -1,0 +1,10 @@
+pub mod MarkedCode
+pub mod Callers
+pub mod Walking
+pub mod Calling
+pub mod RunEndings
+pub mod NearestCall
+pub mod GoodStates
+pub mod GoodRuns
+pub mod ResumeNumbers
+pub mod RefusedRecords

@@ -1,0 +1,4 @@
+pub mod Good
+pub mod Resuming
+pub mod Values
+pub mod Internal
