@@ -8,7 +8,7 @@
 
 #include "gate.h"
 
-enum { STACK_BYTES = 1 << 20, OWN_BYTES = 192, PAINT = 0xA5, HEADER_BYTES = 8, LENGTH_BYTES = 4, MOST_CODE = 4096 };
+enum { STACK_BYTES = 1 << 20, OWN_BYTES = 192, PAINT = 0xA5, HEADER_BYTES = 8, LENGTH_BYTES = 4, MOST_CODE = 4096, OLD_BYTES = 19 };
 
 static const struct gate_limits limits = { .grant = { 0x0000, 0x00FF }, .stack = { 0x0300, 0x03FF }, .second = GATE_NO_AREA };
 
@@ -16,7 +16,7 @@ static const struct gate_limits limits = { .grant = { 0x0000, 0x00FF }, .stack =
 static uint8_t image[HEADER_BYTES + LENGTH_BYTES + MOST_CODE];
 static size_t image_length;
 static uint16_t marks[GATE_MARKS_ENOUGH], report[GATE_REPORT], offset[1];
-static uint8_t memory[GATE_MEMORY_BYTES], saved[GATE_SAVED_BYTES], paused[GATE_SAVED_BYTES];
+static uint8_t memory[GATE_MEMORY_BYTES], saved[GATE_SAVED_BYTES], paused[GATE_SAVED_BYTES], old[OLD_BYTES];
 static uint32_t registers[GATE_REGISTERS], resumed[GATE_REGISTERS], steps[1], most_steps[1];
 static uint64_t cycles[1], total[1];
 static struct gate_record record;
@@ -45,6 +45,12 @@ static void resume(void)
                 resumed, total, cycles, offset);
 }
 
+static void resume_old(void)
+{
+    gate_resume(image, image_length, &limits, marks, GATE_MARKS_ENOUGH, memory, sizeof memory, old, sizeof old, 100000,
+                resumed, total, cycles, offset);
+}
+
 static void decode(void)
 {
     uint8_t text[GATE_TEXT_BYTES], figures[GATE_CYCLES];
@@ -55,7 +61,7 @@ static void decode(void)
 
 static void lay_out(void) { gate_layout(image, image_length, &layout); }
 
-/* Each function, and the most that gate.h says it takes. */
+/* Each function, gate_resume also from version 0001, and the most that gate.h says it takes. */
 static const struct { const char *name; void (*call)(void); size_t most; } calls[] = {
     { "gate_check", check, 82 * 1024 },
     { "gate_turn", turn, 82 * 1024 },
@@ -65,6 +71,7 @@ static const struct { const char *name; void (*call)(void); size_t most; } calls
     { "gate_run", run, 1024 },
     { "gate_save", save, 1024 },
     { "gate_resume", resume, 82 * 1024 },
+    { "gate_resume old", resume_old, 82 * 1024 },
     { "gate_decode", decode, 1024 },
     { "gate_layout", lay_out, 1024 },
 };
@@ -126,12 +133,17 @@ static void make_image(unsigned kind)
     memset(memory, 0, sizeof memory);
 }
 
-/* Starts, and keeps for gate_resume where the routine stands after two steps: in the first one, where main begins with a call. */
+/* Starts, and keeps for gate_resume where the routine stands after two steps: in the first one, where main begins with a call. The
+ * same in version 0001 has but the low half of the steps. */
 static void start_and_pause(void)
 {
+    enum { BEFORE_STEPS = 15 };
     start();
     gate_run(image, image_length, &limits, memory, sizeof memory, registers, 2, steps, cycles);
     gate_save(registers, steps[0], paused);
+    memcpy(old, paused, BEFORE_STEPS);
+    old[4] = 0x01;
+    memcpy(old + BEFORE_STEPS, paused + BEFORE_STEPS + 4, 4);
 }
 
 int main(void)

@@ -187,11 +187,17 @@ static void resume(const uint8_t *saved, size_t saved_length)
     print_state(registers);
 }
 
-/* Pauses the sum after seven steps, in the routine that main calls, and goes on from 19 bytes and the memory. Without the memory, where
- * the routine's return address lies, there is no going on. */
+/* The sum after seven steps as it was saved before library 0.5.0, in version 0001: its steps have 4 bytes. */
+static const uint8_t kept[] = {
+    'S', 'L', 'S', 0x00, 0x01, 0x80, 0x04, 0x03, 0xFB, 0x64, 0x00, 0x64, 0x00, 0x00, 0x00, 0x00, 0x00, 0x00, 0x07,
+};
+
+/* Pauses the sum after seven steps, in the routine that main calls, and goes on from 23 bytes and the memory, and then from the 19 that
+ * were kept. Without the memory, where the routine's return address lies, there is no going on. */
 static void pause_and_resume(void)
 {
     enum { STEPS = 7 };
+    static uint8_t paused[GATE_MEMORY_BYTES];
     uint8_t saved[GATE_SAVED_BYTES];
     uint32_t registers[GATE_REGISTERS] = {0};
     uint16_t report[GATE_REPORT];
@@ -208,7 +214,10 @@ static void pause_and_resume(void)
     for (unsigned number = 0; number < GATE_SAVED_BYTES; number++)
         printf(" %02X", (unsigned)saved[number]);
     printf("\n");
+    memcpy(paused, memory, sizeof memory);
     resume(saved, sizeof saved);
+    memcpy(memory, paused, sizeof memory);
+    resume(kept, sizeof kept);
     memset(memory, 0, sizeof memory);
     resume(saved, sizeof saved);
     resume(saved, sizeof saved - 1);

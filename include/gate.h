@@ -40,9 +40,9 @@ extern "C" {
 
 /* The version of the library that this header is of. gate_library_version answers that of the archive. */
 #define GATE_LIBRARY_MAJOR 0u
-#define GATE_LIBRARY_MINOR 4u
+#define GATE_LIBRARY_MINOR 5u
 #define GATE_LIBRARY_PATCH 0u
-#define GATE_LIBRARY_VERSION "0.4.0"
+#define GATE_LIBRARY_VERSION "0.5.0"
 
 /* Answers of every function but gate_library_version: 0, a refusal, a trap, how a step or a run ended, or why no turn is given. */
 enum gate_number {
@@ -70,10 +70,10 @@ enum gate_number {
     GATE_TRAP_STACK = 24,           /* SP would leave its range */
     GATE_TRAP_STORE = 25,           /* a direct store not wholly in a grant, or an SP store outside SP + 1 to stack high */
     GATE_RECORD = 26,               /* a record of more than two bytes, or with one at an address above 7FFF */
-    GATE_NOT_SLS = 34,              /* a saved state whose length, mark or version is wrong */
-    GATE_NOT_GOOD = 35,             /* a saved state that is not good; in saving, a PC above FFFF or steps above 4,294,967,295 */
+    GATE_NOT_SLS = 34,              /* a saved state whose mark or version is wrong, or whose length is not its version's */
+    GATE_NOT_GOOD = 35,             /* a saved state that is not good; in saving, a PC above FFFF */
     GATE_FINISHED = 64,             /* a step that began at PC 0; a run that reached it, or was resumed there */
-    GATE_SPENT = 65,                /* a run that used up its budget, or resumed came to the total 4,294,967,295; PC not 0 */
+    GATE_SPENT = 65,                /* a run that used up its budget, or resumed came to the total 18,446,744,073,709,551,615; PC not 0 */
     GATE_NO_TURN = 66,              /* accepted; some jump goes to its own or a lower address, so there is no turn */
     GATE_OVER = 67                  /* accepted; the turn is above 4,294,967,295 */
 };
@@ -107,8 +107,8 @@ static inline const char *gate_number_text(uint8_t number)
     case GATE_TRAP_STACK: return "SP would leave its range";
     case GATE_TRAP_STORE: return "direct store not wholly in one of the grants, or SP store outside SP + 1 to stack high";
     case GATE_RECORD: return "a record of more than two bytes, or with one at an address above 7FFF";
-    case GATE_NOT_SLS: return "saved state not of 19 bytes, not SLS, or not version 0001";
-    case GATE_NOT_GOOD: return "saved state not good, or PC or steps too large to save";
+    case GATE_NOT_SLS: return "saved state neither 19 bytes of SLS version 0001 nor 23 of version 0002";
+    case GATE_NOT_GOOD: return "saved state not good, or PC too large to save";
     case GATE_FINISHED: return "finished";
     case GATE_SPENT: return "the budget is used up";
     case GATE_NO_TURN: return "no turn: a jump goes to its own or a lower address";
@@ -121,7 +121,7 @@ static inline const char *gate_number_text(uint8_t number)
 #define GATE_MARKS_ENOUGH 4096u     /* marks that are enough for every image */
 #define GATE_TEXT_BYTES 24u         /* the cells of a text, its final 0 included */
 #define GATE_ROUTINES 32u           /* the most routines of an image */
-#define GATE_SAVED_BYTES 19u        /* the bytes of a saved state */
+#define GATE_SAVED_BYTES 23u        /* the bytes of a saved state that is written; an old one, of version 0001, has 19 */
 
 /* Addresses, ends included. */
 struct gate_area { uint16_t low, high; };
@@ -258,19 +258,22 @@ uint8_t gate_run(const uint8_t *image, size_t image_length,
                  uint32_t registers[GATE_REGISTERS],
                  uint32_t budget, uint32_t steps[1], uint64_t cycles[1]);
 
-/* Saves registers and steps as a saved state, from which gate_resume goes on: SLS, version 0001. The answer is 0; or 35 where PC is above
- * FFFF, to which no accepted routine comes, or steps are above 4,294,967,295, to which a sum over several runs may come. Registers are
- * read as in gate_step.
- * saved: 53 4C 53 for SLS, the version 0001 (2 bytes), PC (2), SP (2), A (1), X (2), Y (2), CC (1) and steps (4), high bytes first.
+/* Saves registers and steps as a saved state, from which gate_resume goes on: SLS, version 0002. The answer is 0; or 35 where PC is above
+ * FFFF, to which no accepted routine comes. Registers are read as in gate_step.
+ * saved: 53 4C 53 for SLS, the version 0002 (2 bytes), PC (2), SP (2), A (1), X (2), Y (2), CC (1) and steps (8), high bytes first.
  * Refused, all bytes are 00.
  * steps: those made since the start, so the sum over the runs and single steps since then, or what gate_resume reported and those made
  * since. The memory is not saved: it is the caller's to keep, all of it and as it is now, beside the saved state. */
 uint8_t gate_save(const uint32_t registers[GATE_REGISTERS], uint64_t steps, uint8_t saved[GATE_SAVED_BYTES]);
 
 /* Resumes from a saved state: makes steps from its registers, on the memory as it is lent, until the routine finishes, budget steps are
- * made or their total is 4,294,967,295. The answer is GATE_FINISHED, GATE_SPENT, or a refusal: 17; then 1 to 16, the whole check; then
- * 34, where the saved state has another length than 19, other letters than SLS or another version than 0001; then 35, where it is not
- * good. It is never a trap, for an accepted routine does not trap from a good state, whatever else the memory holds.
+ * made or their total is 18,446,744,073,709,551,615. The answer is GATE_FINISHED, GATE_SPENT, or a refusal: 17; then 1 to 16, the whole
+ * check; then 34, where the saved state has other letters than SLS, another version than 0001 and 0002, or not its version's length;
+ * then 35, where it is not good. It is never a trap, for an accepted routine does not trap from a good state, whatever else the memory
+ * holds.
+ *   Version 0002 is what gate_save writes, GATE_SAVED_BYTES long. Version 0001, which the library wrote before 0.5.0, has 4 bytes for the
+ *   steps where 0002 has 8, and so 19 in all; the rest is the same. With the same registers and steps both come to the same, so a state
+ *   that was kept is given as it is, with its own length.
  *   Good: PC is 0, for finished, and SP equals stack high. Or PC is at a start, and the stack holds from SP + 1 up: as many bytes as the
  *   depth there, of any value; the address after a call to that start's routine; as many bytes as the depth at that call; the address
  *   after a call to the routine that the call stands in; and so on up to main's return bytes, which are 00 00 and the top two of the
@@ -282,8 +285,8 @@ uint8_t gate_save(const uint32_t registers[GATE_REGISTERS], uint64_t steps, uint
  * What registers, steps, cycles and offset held is not read. Whatever the answer they are written:
  *   GATE_FINISHED: registers and memory are those after the last step made, and PC is 0. steps: the total, those of the saved state and
  *   those made now. cycles: the sum over those made now alone. Where PC was 0 none is made.
- *   GATE_SPENT: the same, with PC not 0: budget steps are made, or the total is 4,294,967,295. Budget 0 makes none: with it the call
- *   tests a saved state and takes it apart. To go on, call gate_run with these registers, or save them and resume.
+ *   GATE_SPENT: the same, with PC not 0: budget steps are made, or the total is 18,446,744,073,709,551,615. Budget 0 makes none: with it
+ *   the call tests a saved state and takes it apart. To go on, call gate_run with these registers, or save them and resume.
  *   a refusal: registers, steps and cycles are 0, and no memory is written. offset is that of gate_check; for any other answer 0.
  * marks: after 17 none has changed; after 1 to 16 they are as gate_check leaves them; else as it leaves them where it accepts, after 34
  * and 35 too. No memory is written but by the steps: main's return bytes are tested, and not written as by gate_start. */

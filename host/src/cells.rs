@@ -11,7 +11,7 @@ use std::mem::size_of;
 pub const OK: u8 = 0;
 /// The answer of a step that began at PC 0, and of a run that reached it or was resumed there.
 pub const FINISHED: u8 = 64;
-/// The answer of a run that used up its budget, and of a resumed one whose total is 4,294,967,295.
+/// The answer of a run that used up its budget, and of a resumed one whose total is 18,446,744,073,709,551,615.
 pub const SPENT: u8 = 65;
 /// The answer where there is no turn, since some jump goes to its own or a lower address.
 pub const NO_TURN: u8 = 66;
@@ -322,7 +322,7 @@ pub fn run(
 /// # use gate_host::cells;
 /// let mut saved = [0xAA; gate_host::SAVED_BYTES];
 /// assert_eq!(cells::save(&[0x05, 0x1234, 0x5678, 0x28, 0x03FD, 0x8002], 1, &mut saved), cells::OK);
-/// assert_eq!(&saved, b"SLS\x00\x01\x80\x02\x03\xFD\x05\x12\x34\x56\x78\x28\x00\x00\x00\x01");
+/// assert_eq!(&saved, b"SLS\x00\x02\x80\x02\x03\xFD\x05\x12\x34\x56\x78\x28\x00\x00\x00\x00\x00\x00\x00\x01");
 /// ```
 pub fn save(registers: &RegisterCells, steps: u64, saved: &mut [u8; SAVED_BYTES]) -> u8 {
     // SAFETY: as for `check`: each pointer comes from a reference to as many cells as its array type says, and what is written from
@@ -330,7 +330,7 @@ pub fn save(registers: &RegisterCells, steps: u64, saved: &mut [u8; SAVED_BYTES]
     unsafe { c::gate_save(registers, steps, saved) }
 }
 
-/// Resumes from a saved state, as `gate_resume` does.
+/// Resumes from a saved state, of version 0002 or 0001, as `gate_resume` does.
 ///
 /// ```
 /// # use gate_host::cells;
@@ -338,13 +338,17 @@ pub fn save(registers: &RegisterCells, steps: u64, saved: &mut [u8; SAVED_BYTES]
 /// # let area = |low, high| Area { low, high };
 /// # let limits = Limits { grant: area(0x0000, 0x00FF), stack: area(0x0300, 0x03FF), second: Area::NONE };
 /// # let image = b"SLU\x00\x01\x80\x00\x01\x00\x05\xA6\x05\xB7\x10\x81";
-/// let saved = b"SLS\x00\x01\x80\x02\x03\xFD\x05\x00\x00\x00\x00\x00\x00\x00\x00\x01"; // after the first of three steps
-/// let (mut marks, mut memory, mut registers) = ([0; 5], vec![0; MEMORY_BYTES], [0; 6]);
-/// let (mut steps, mut cycles, mut offset) = ([0], [0], [0]);
-/// let (total, sum, at) = (&mut steps, &mut cycles, &mut offset);
-/// let number = cells::resume(image, &limits, &mut marks, &mut memory, saved, 9, &mut registers, total, sum, at);
-/// assert_eq!((number, registers), (cells::FINISHED, [5, 0, 0, 0, 0x03FF, 0]));
-/// assert_eq!((memory[0x0010], steps, cycles, offset), (0x05, [3], [5], [0]));
+/// // After the first of three steps, as it is saved and as it was saved before library 0.5.0.
+/// let saved = b"SLS\x00\x02\x80\x02\x03\xFD\x05\x00\x00\x00\x00\x00\x00\x00\x00\x00\x00\x00\x00\x01";
+/// let old = b"SLS\x00\x01\x80\x02\x03\xFD\x05\x00\x00\x00\x00\x00\x00\x00\x00\x01";
+/// for saved in [&saved[..], old] {
+///     let (mut marks, mut memory, mut registers) = ([0; 5], vec![0; MEMORY_BYTES], [0; 6]);
+///     let (mut steps, mut cycles, mut offset) = ([0], [0], [0]);
+///     let (total, sum, at) = (&mut steps, &mut cycles, &mut offset);
+///     let number = cells::resume(image, &limits, &mut marks, &mut memory, saved, 9, &mut registers, total, sum, at);
+///     assert_eq!((number, registers), (cells::FINISHED, [5, 0, 0, 0, 0x03FF, 0]));
+///     assert_eq!((memory[0x0010], steps, cycles, offset), (0x05, [3], [5], [0]));
+/// }
 /// ```
 #[allow(clippy::too_many_arguments)]
 pub fn resume(

@@ -224,8 +224,7 @@ pub fn run(image: &[u8], limits: &Limits, memory: &mut [u8], registers: &mut Reg
     Ok(Run { ending, steps: steps[0], cycles: cycles[0] })
 }
 
-/// Saves registers and steps, to [`resume`] from later. It is refused with 35 where PC is above FFFF, to which no accepted routine comes,
-/// or steps are above 4,294,967,295, to which a sum over several runs may come.
+/// Saves registers and steps, to [`resume`] from later. It is refused with 35 where PC is above FFFF, to which no accepted routine comes.
 ///
 /// The steps are those made since the start: the sum over the runs and single steps since then, or the total of a resumed run and those
 /// made since. The memory is not saved. Whoever wants to resume keeps all of it, as it is now, beside the saved state.
@@ -234,7 +233,7 @@ pub fn run(image: &[u8], limits: &Limits, memory: &mut [u8], registers: &mut Reg
 /// # use gate_host::{Refusal, Registers};
 /// let registers = Registers { a: 5, sp: 0x03FD, pc: 0x8002, ..Registers::default() };
 /// let saved = gate_host::save(&registers, 1)?;
-/// assert_eq!(&saved.to_bytes(), b"SLS\x00\x01\x80\x02\x03\xFD\x05\x00\x00\x00\x00\x00\x00\x00\x00\x01");
+/// assert_eq!(&saved.to_bytes(), b"SLS\x00\x02\x80\x02\x03\xFD\x05\x00\x00\x00\x00\x00\x00\x00\x00\x00\x00\x00\x00\x01");
 /// assert_eq!(gate_host::save(&Registers { pc: 0x1_0000, ..registers }, 1), Err(Refusal::NotGood));
 /// # Ok::<(), Refusal>(())
 /// ```
@@ -247,12 +246,14 @@ pub fn save(registers: &Registers, steps: u64) -> Result<SavedState, Refusal> {
 }
 
 /// Resumes from a saved state, or from the bytes of a file: makes steps from its registers, on the memory as it is lent, until the routine
-/// finishes, `budget` steps are made or their total is 4,294,967,295.
+/// finishes, `budget` steps are made or their total is 18,446,744,073,709,551,615. What was saved before library 0.5.0, 19 bytes of
+/// version 0001, is taken as it is and comes to the same as the 23 bytes of version 0002 that [`save`] makes of the same registers and
+/// steps.
 ///
-/// It is refused as a start is; then with 34, where the saved state has another length, mark or version; then with 35, where it is not
-/// good. It is good where PC is 0 and SP equals stack high; or where PC is at a start, and the stack above SP holds the addresses after
-/// the calls that lead there, at the depths of those calls, down to main, whose return bytes are 00 00 at the very top. Every state
-/// that steps and runs from a start come to is good, and from a good one all holds that is guaranteed after a start.
+/// It is refused as a start is; then with 34, where the saved state has another mark or version, or not its version's length; then with
+/// 35, where it is not good. It is good where PC is 0 and SP equals stack high; or where PC is at a start, and the stack above SP holds
+/// the addresses after the calls that lead there, at the depths of those calls, down to main, whose return bytes are 00 00 at the very
+/// top. Every state that steps and runs from a start come to is good, and from a good one all holds that is guaranteed after a start.
 ///
 /// Given the image, the limits and the memory as they were when it was saved, it comes to what would have come without the pause.
 /// Refused, no memory is written. Marks are as [`check`] leaves them, after 34 and 35 too, and unchanged where the memory is refused.
@@ -272,6 +273,10 @@ pub fn save(registers: &Registers, steps: u64) -> Result<SavedState, Refusal> {
 /// let finished = Registers { a: 5, sp: 0x03FF, pc: 0, ..Registers::default() };
 /// assert_eq!(resumed, Resumed { finished: true, registers: finished, steps: 3, cycles: 5 });
 /// assert_eq!(memory[0x0010], 0x05);
+///
+/// // A file of the same pause that was written before library 0.5.0.
+/// let old = b"SLS\x00\x01\x80\x02\x03\xFD\x05\x00\x00\x00\x00\x00\x00\x00\x00\x01";
+/// assert_eq!(gate_host::resume(image, &limits, &mut marks, &mut memory, old, 1_000)?, resumed);
 ///
 /// let refused = gate_host::resume(image, &limits, &mut marks, &mut memory, b"SLS", 1_000).unwrap_err();
 /// assert_eq!(refused, Refused { refusal: Refusal::NotSls, offset: 0 });

@@ -8,8 +8,8 @@ pub const MARKS_ENOUGH: usize = 4_096;
 pub const TEXT_BYTES: usize = 24;
 /// The most routines of an image.
 pub const ROUTINES: usize = 32;
-/// The bytes of a saved state.
-pub const SAVED_BYTES: usize = 19;
+/// The bytes of a saved state that is written; an old one, of version 0001, has 19.
+pub const SAVED_BYTES: usize = 23;
 
 /// Addresses, ends included. It has no default: one of zeros is byte 0000, and not [`Area::NONE`].
 #[derive(Clone, Copy, Debug, PartialEq, Eq)]
@@ -132,9 +132,9 @@ pub enum Refusal {
     Memory = 17,
     /// A record of more than two bytes, or with one at an address above 7FFF.
     Record = 26,
-    /// A saved state whose length, mark or version is wrong.
+    /// A saved state whose mark or version is wrong, or whose length is not its version's.
     NotSls = 34,
-    /// A saved state that is not good; in saving, a PC above FFFF or steps above 4,294,967,295.
+    /// A saved state that is not good; in saving, a PC above FFFF.
     NotGood = 35,
 }
 
@@ -315,10 +315,10 @@ impl Run {
     }
 }
 
-/// A saved state: registers and steps as 19 bytes, SLS of version 0001. The memory is not in it, and is kept beside it.
+/// A saved state: registers and steps as 23 bytes, SLS of version 0002. The memory is not in it, and is kept beside it.
 ///
 /// [`save`](crate::save) makes one. One of other bytes may hold anything, and [`resume`](crate::resume) tests it. It can be handed to
-/// whatever takes bytes, such as [`std::fs::write`].
+/// whatever takes bytes, such as [`std::fs::write`]. An old one, 19 bytes of version 0001, is resumed as a slice and never made.
 #[derive(Clone, Copy, Debug, PartialEq, Eq)]
 pub struct SavedState([u8; SAVED_BYTES]);
 
@@ -338,8 +338,8 @@ impl SavedState {
     /// Its bytes.
     ///
     /// ```
-    /// let saved = gate_host::save(&gate_host::Registers::default(), 0x01020304)?;
-    /// assert_eq!((&saved.to_bytes()[..3], &saved.to_bytes()[15..]), (&b"SLS"[..], &[1, 2, 3, 4][..]));
+    /// let saved = gate_host::save(&gate_host::Registers::default(), 0x0102_0304_0506_0708)?;
+    /// assert_eq!((&saved.to_bytes()[..3], &saved.to_bytes()[15..]), (&b"SLS"[..], &[1, 2, 3, 4, 5, 6, 7, 8][..]));
     /// # Ok::<(), gate_host::Refusal>(())
     /// ```
     pub const fn to_bytes(self) -> [u8; SAVED_BYTES] {
@@ -356,7 +356,7 @@ impl AsRef<[u8]> for SavedState {
 /// A resumed run's answer. It has no trap: from a saved state that is good no accepted routine traps.
 #[derive(Clone, Copy, Debug, PartialEq, Eq)]
 pub struct Resumed {
-    /// Whether PC is 0. Else it is spent: the budget is used up, or the total is 4,294,967,295.
+    /// Whether PC is 0. Else it is spent: the budget is used up, or the total is 18,446,744,073,709,551,615.
     pub finished: bool,
     /// Those after the last step made.
     pub registers: Registers,

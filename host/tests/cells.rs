@@ -80,7 +80,8 @@ fn save_and_resume_write_their_cells_alone() {
     assert!(registers.is_whole() && saved.is_whole(), "save");
     let (mut marks, mut offset) = (Guarded::new([0; 5]), Guarded::new([0]));
     let (mut steps, mut cycles) = (Guarded::new([0]), Guarded::new([0]));
-    for (length, expected) in [(SAVED_BYTES, cells::FINISHED), (SAVED_BYTES - 1, 34)] {
+    for (version, length, expected) in [(2, SAVED_BYTES, cells::FINISHED), (1, 19, cells::FINISHED), (2, SAVED_BYTES - 1, 34)] {
+        saved.cells[4] = version;
         let (lent, state, given) = (&mut memory.cells, &saved.cells[..length], &mut registers.cells);
         let (total, sum, at) = (&mut steps.cells, &mut cycles.cells, &mut offset.cells);
         assert_eq!(cells::resume(IMAGE, &LIMITS, &mut marks.cells, lent, state, 9, given, total, sum, at), expected);

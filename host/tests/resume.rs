@@ -1,5 +1,5 @@
-//! Saving and resuming: the bytes of a saved state, that a pause changes nothing, which states are good, the ceiling of the total, and
-//! what a refusal leaves.
+//! Saving and resuming: the bytes of a saved state in either version, that a pause changes nothing, which states are good, the ceiling of
+//! the total, and what a refusal leaves.
 
 use gate_host::cells;
 use gate_host::{
@@ -20,7 +20,9 @@ const IMAGE: &[u8] = b"SLU\x00\x02\x80\x00\x03\x00\x04\x00\x06\x00\x0B\
 /// The steps of `IMAGE` from the start to the end.
 const STEPS: u64 = 18;
 /// The most steps that a total holds.
-const CEILING: u64 = 4_294_967_295;
+const CEILING: u64 = 18_446_744_073_709_551_615;
+/// The most steps that a saved state of version 0001 holds.
+const OLD_MOST: u64 = 4_294_967_295;
 
 fn started() -> (Vec<u8>, Registers) {
     let mut memory: Vec<u8> = (0..MEMORY_BYTES).map(|address| address as u8).collect();
@@ -38,30 +40,35 @@ fn resume(memory: &mut [u8], saved: impl AsRef<[u8]>, budget: u32) -> Result<Res
 }
 
 fn saved(registers: &Registers, steps: u64) -> SavedState {
-    gate_host::save(registers, steps).expect("PC and steps of a run")
+    gate_host::save(registers, steps).expect("the PC of a run")
+}
+
+/// What saving made of the same before there was version 0002: its steps have 4 bytes.
+fn old(registers: &Registers, steps: u64) -> Vec<u8> {
+    let state = saved(registers, 0).to_bytes();
+    let steps = u32::try_from(steps).expect("steps of 32 bits").to_be_bytes();
+    [b"SLS\x00\x01", &state[5..15], &steps].concat()
 }
 
 #[test]
 fn each_register_and_the_steps_have_their_bytes() {
     let registers = Registers { a: 0x01, x: 0x0203, y: 0x0405, cc: 0x06, sp: 0x0708, pc: 0x090A };
-    let expected = b"SLS\x00\x01\x09\x0A\x07\x08\x01\x02\x03\x04\x05\x06\x0B\x0C\x0D\x0E";
-    assert_eq!(&saved(&registers, 0x0B0C_0D0E).to_bytes(), expected);
+    let expected = b"SLS\x00\x02\x09\x0A\x07\x08\x01\x02\x03\x04\x05\x06\x0B\x0C\x0D\x0E\x0F\x10\x11\x12";
+    assert_eq!(&saved(&registers, 0x0B0C_0D0E_0F10_1112).to_bytes(), expected);
     assert_eq!(SavedState::from_bytes(*expected).as_ref(), expected);
 }
 
-/// A PC or steps that have no room are refused, and nothing of them is saved. The other registers are cut to their width.
+/// A PC that has no room is refused, and nothing is saved. Steps have room, however many. The other registers are cut to their width.
 #[test]
-fn what_has_no_room_is_refused() {
+fn a_pc_that_has_no_room_is_refused() {
     let save = |pc: u32, steps: u64| {
         let mut saved = [0xA5; SAVED_BYTES];
         let number = cells::save(&[0xFFFF_FF01, 0xFFFF_0203, 0xFFFF_0405, 0xFFFF_FF06, 0xFFFF_0708, pc], steps, &mut saved);
         (number, saved)
     };
-    let good = *b"SLS\x00\x01\xFF\xFF\x07\x08\x01\x02\x03\x04\x05\x06\xFF\xFF\xFF\xFF";
+    let good = *b"SLS\x00\x02\xFF\xFF\x07\x08\x01\x02\x03\x04\x05\x06\xFF\xFF\xFF\xFF\xFF\xFF\xFF\xFF";
     assert_eq!(save(0xFFFF, CEILING), (cells::OK, good));
-    for (pc, steps) in
-        [(0x1_0000, 0), (0x0100_8000, 0), (u32::MAX, 0), (0x8000, CEILING + 1), (0x8000, u64::MAX), (0x1_0000, 1 << 32)]
-    {
+    for (pc, steps) in [(0x1_0000, 0), (0x0100_8000, 0), (u32::MAX, 0), (0x1_0000, CEILING)] {
         assert_eq!(save(pc, steps), (35, [0; SAVED_BYTES]), "PC {pc:X}, {steps} steps");
     }
 }
@@ -105,6 +112,26 @@ fn a_pause_after_each_step_changes_nothing() {
     assert_eq!(resume(&mut paused, state, 9), Ok(Resumed { cycles: 0, ..last }), "nothing more happens");
 }
 
+/// A pause that was saved in version 0001 goes on as one in version 0002 does, from every step on; and so does one at the ends of what
+/// version 0001 holds, with a total that then has more than 32 bits.
+#[test]
+fn an_old_state_goes_on_as_a_new_one() {
+    for first in 0..=STEPS as u32 {
+        let (mut memory, mut registers) = started();
+        let made = u64::from(ran(&mut memory, &mut registers, first).steps);
+        for steps in [made, 0, 1 << 31, OLD_MOST - 1, OLD_MOST] {
+            for budget in [0, 1, 2, 1_000] {
+                let (mut old_memory, mut new_memory) = (memory.clone(), memory.clone());
+                let from_old = resume(&mut old_memory, old(&registers, steps), budget).expect("a state of a run");
+                let from_new = resume(&mut new_memory, saved(&registers, steps), budget).expect("a state of a run");
+                assert_eq!(from_old, from_new, "{first} steps made, {steps} saved, budget {budget}");
+                assert_eq!(from_old.steps - steps, (STEPS - u64::from(first)).min(budget.into()));
+                assert!(old_memory == new_memory, "{first} steps made, {steps} saved, budget {budget}");
+            }
+        }
+    }
+}
+
 /// Memory and registers three frames deep: at 8001, with the byte of 8000, the two bytes of 8004 and the byte of main on the stack.
 fn deep() -> (Vec<u8>, Registers) {
     let (mut memory, mut registers) = started();
@@ -119,7 +146,9 @@ fn number(pc: u32, sp: u16, address: usize, bytes: &[u8]) -> u8 {
     let (mut memory, registers) = deep();
     memory[address..address + bytes.len()].copy_from_slice(bytes);
     let kept = memory.clone();
-    let answer = resume(&mut memory, saved(&Registers { pc, sp, ..registers }, 5), 0);
+    let registers = Registers { pc, sp, ..registers };
+    let answer = resume(&mut memory, saved(&registers, 5), 0);
+    assert_eq!(resume(&mut memory, old(&registers, 5), 0), answer, "in version 0001");
     assert!(memory == kept, "no step is made");
     answer.map_or_else(|refused| refused.refusal.number(), |_| 0)
 }
@@ -221,6 +250,10 @@ fn a_total_stops_at_the_ceiling() {
     assert_eq!([total(CEILING, 0), total(CEILING, 1), total(CEILING, u32::MAX)], [CEILING; 3]);
     assert_eq!([total(CEILING - 3, 2), total(CEILING - 3, 3), total(CEILING - 3, 4)], [CEILING - 1, CEILING, CEILING]);
     assert_eq!([total(CEILING - 3, u32::MAX), total(0, 5)], [CEILING, 5]);
+    // What is left to the ceiling has more than 32 bits, and its low ones are few.
+    for left in [1 << 32, (1 << 32) + 1, 1 << 63] {
+        assert_eq!(total(CEILING - left, 5), CEILING - left + 5);
+    }
 }
 
 /// One that finishes with the last step before the ceiling has finished, and so has one that had finished there.
@@ -271,19 +304,21 @@ fn refusals_have_an_order() {
 
 #[test]
 fn another_length_mark_or_version_is_no_saved_state() {
-    let good = saved(&started().1, 0).to_bytes();
-    let mut others: Vec<Vec<u8>> = (0..40).filter(|&length| length != SAVED_BYTES).map(|length| vec![0x53; length]).collect();
-    others.push(good[..18].to_vec());
-    others.push([&good[..], &[0x00]].concat());
-    for (at, byte) in [(0, b's'), (1, b'l'), (2, b'U'), (3, 0x01), (4, 0x00), (4, 0x02), (4, 0x03)] {
-        let mut changed = good;
-        changed[at] = byte;
-        others.push(changed.to_vec());
+    let registers = started().1;
+    for (good, version) in [(saved(&registers, 0).to_bytes().to_vec(), 2), (old(&registers, 0), 1)] {
+        let lengths = (0..40).filter(|&length| length != good.len());
+        let padded = |length| good.iter().copied().chain([0; 40]).take(length).collect();
+        let mut others: Vec<Vec<u8>> = lengths.map(padded).collect();
+        for (at, byte) in [(0, b's'), (1, b'l'), (2, b'U'), (3, version), (4, 0), (4, 3 - version), (4, 3), (4, version << 4)] {
+            let mut changed = good.clone();
+            changed[at] = byte;
+            others.push(changed);
+        }
+        for other in others {
+            assert_eq!(resume(&mut started().0, &other, 9), Err(Refusal::NotSls.into()), "{other:02X?}");
+        }
+        assert!(resume(&mut started().0, good, 9).is_ok());
     }
-    for other in others {
-        assert_eq!(resume(&mut started().0, &other, 9), Err(Refusal::NotSls.into()), "{other:02X?}");
-    }
-    assert!(resume(&mut started().0, good, 9).is_ok());
 }
 
 /// The guarantee from a good state that no run came to, with other bytes in all of memory but the return addresses.

@@ -70,7 +70,7 @@ fn outcome(image: &[u8], limits: &Limits) -> Outcome {
     let steps = (0..12).map(step).collect();
     while history.step_back(&mut memory, &mut registers).expect("the right memory") {}
     let back = state(&registers, &memory);
-    let saved = gate_host::save(&registers, 0).expect("PC and steps of a start");
+    let saved = gate_host::save(&registers, 0).expect("the PC of a start");
     let mut resumed = memory.clone();
     let resume = gate_host::resume(image, limits, &mut marks, &mut resumed, saved, 1_000);
     let resume = (resume, marks.clone(), state(&registers, &resumed));

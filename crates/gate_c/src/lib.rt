@@ -289,7 +289,7 @@ pub extern "C" fn gate_run(
 
 // Saves registers and steps as a record.
 #[no_mangle]
-pub extern "C" fn gate_save(registers: &[u32; 6], steps: u64, saved: &mut [u8; 19]) -> u8
+pub extern "C" fn gate_save(registers: &[u32; 6], steps: u64, saved: &mut [u8; 23]) -> u8
     ensures { λ r. ⌜ r ≡ savedOf (registersIn (now (registers .entry))) steps .number ⌝ }
     ensures { λ _. ⌜ now (saved .exit) ≡ savedOf (registersIn (now (registers .entry))) steps .bytes ⌝ }
 {
@@ -415,10 +415,10 @@ pub extern "C" fn gate_turn(
     values.number
 }
 
-// The version of this library, 0.4.0: major, minor and patch, a byte each.
+// The version of this library, 0.5.0: major, minor and patch, a byte each.
 #[no_mangle]
 pub extern "C" fn gate_library_version() -> u32
-    ensures { λ r. ⌜ r ≡ 0x000400 ⌝ }
+    ensures { λ r. ⌜ r ≡ 0x000500 ⌝ }
 {
-    0x000400
+    0x000500
 }

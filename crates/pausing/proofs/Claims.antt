@@ -3,7 +3,6 @@
 use Prim.Native.Nat.{ℕ, _+_, _≤_}
 use mathlib.Core.Path.{_≡_, ap}
 use mathlib.Core.List.{List}
-use native.Mathlib.Omega.{arith}
 use lib.ListN.{length}
 use Rattle.numbers.specs.Lists.{Bytes}
 use Rattle.image.specs.declared.Limits.{Limits}
@@ -21,15 +20,14 @@ use Rattle.gate.proofs.OneStep.{unchanged-none}
 use Rattle.gate.proofs.Starting.{accepted-start}
 use Rattle.gate.proofs.Guarantee.{accepted-code, good-guarantee, every-good}
 use Rattle.saved_state.specs.Sls.{stateIn}
-use Rattle.saved_state.proofs.Saving.{saving-fits}
 use Rattle.saved_state.proofs.Trips.{saved-reads, state-fits}
 use Rattle.resuming.specs.Good.{pointAt, Good}
 use Rattle.resuming.specs.Resuming.{ceiling, allowance, ranOn, unreadable, not-good, resumed, Resumes, no-memory, refused, accepted}
 use Rattle.resuming.specs.declared.Resumed.{Resumed}
 use Rattle.resuming.proofs.GoodRuns.{good-run}
+use Rattle.resuming.proofs.RunEndings.{total-most}
 use Rattle.pausing.specs.Pausing.{RunsOn, Resumable, FromRecord}
-use Rattle.pausing.proofs.Resuming.{good-pc, saving-passes, allowance-most}
-use Rattle.pausing.proofs.Steps.{steps-most}
+use Rattle.pausing.proofs.Resuming.{good-pc, saving-passes}
 
 module _ (image : List ℕ) (bytes : Bytes image) (limits : Limits) (marks : List ℕ) (need count : ℕ)
     (accept : checked image limits marks .0 ≡ Verdict.Accepted need count) where
@@ -41,8 +39,8 @@ module _ (image : List ℕ) (bytes : Bytes image) (limits : Limits) (marks : Lis
       Resumable image limits left (p .state .registers) steps (p .state .memory)
   good-resumable p good steps few =
       let h = accepted-code image bytes limits marks need count accept in
-      let saves = saving-passes (p .state .registers) steps (good-pc image limits (depthIn left) (h .needs) (h .code) p good) few in
-      let reads = saved-reads (p .state .registers) steps saves in
+      let saves = saving-passes (p .state .registers) steps (good-pc image limits (depthIn left) (h .needs) (h .code) p good) in
+      let reads = saved-reads (p .state .registers) steps saves few in
       record { saves = saves; reads = reads .0; says = reads .1; good = (p .book, good) }
 
   -- a good record's claims
@@ -73,9 +71,7 @@ module _ (image : List ℕ) (bytes : Bytes image) (limits : Limits) (marks : Lis
       let p = pointAt (state .registers) memory (g .0) in
       let allowed = allowance budget state in
       let end = good-run image limits (depthIn left) (h .needs) (h .code) allowed p size (g .1) in
-      let fits = saving-fits (state .registers) (state .steps) (state-fits record-bytes small) in
-      let most : state .steps + ran allowed image limits (state .registers) memory .0 .steps ≤ ceiling =
-      omega (arith, steps-most allowed image limits (state .registers) memory, allowance-most budget state (fits .1)) in
+      let most = total-most image limits memory state budget (state-fits record-bytes small .1) in
       let there = good-resumable (ranPoint g0 allowed p) (end .0) (state .steps + ran allowed image limits (state .registers) memory .0 .steps) most in
       let registers = ap (λ (x : Resumed × List ℕ). x .0 .registers) is in
       let steps = ap (λ (x : Resumed × List ℕ). x .0 .steps) is in

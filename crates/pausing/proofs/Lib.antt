@@ -5,3 +5,4 @@ pub mod Resuming
 pub mod Pausing
 pub mod Claims
 pub mod OneOutcome
+pub mod Versions

@@ -26,17 +26,16 @@ use Rattle.gate.specs.GoodPoint.{GoodPoint}
 use Rattle.gate.proofs.CheckedCode.{CheckedCode}
 use Rattle.gate.proofs.CheckedByRules.{rules-checked}
 use Rattle.gate.proofs.Starting.{accepted-start, start-tracked}
-use Rattle.saved_state.specs.Sls.{saved}
 use Rattle.saved_state.specs.declared.SavedState.{SavedState}
-use Rattle.saved_state.proofs.Trips.{saved-reads}
 use Rattle.resuming.specs.Good.{pointAt}
 use Rattle.resuming.specs.Resuming.{ceiling, allowance, Resumes}
 use Rattle.resuming.specs.declared.Resumed.{Resumed}
 use Rattle.resuming.proofs.GoodRuns.{good-run}
-use Rattle.pausing.specs.Pausing.{Standing, cameTo, Resumptions, none, again}
+use Rattle.resuming.proofs.RunEndings.{steps-most}
+use Rattle.pausing.specs.Pausing.{Standing, cameTo, RecordOf, Resumptions, none, again}
 use Rattle.pausing.proofs.Depths.{good-marked}
-use Rattle.pausing.proofs.Steps.{steps-most, in-two}
-use Rattle.pausing.proofs.Resuming.{Came, good-runs, good-pc, saving-passes, whole-budget}
+use Rattle.pausing.proofs.Steps.{in-two}
+use Rattle.pausing.proofs.Resuming.{Came, good-runs, good-pc, record-says, whole-budget}
 
 -- a run with no budget stays
 still : (answer : RunAnswer) (s : Standing) → s ≡ cameTo (s .steps) (ended answer (s .registers) (s .memory))
@@ -67,12 +66,11 @@ module _ (image : List ℕ) (bytes : Bytes image) (limits : Limits) (depth need 
   GoodStanding s book = GoodPoint image limits depth (pointAt (s .registers) (s .memory) book)
 
   -- one resumption
-  resumes-once : {marks marks′ memory′ : List ℕ} {r : Resumed} (s : Standing) (budget : ℕ) (book : Book) → length (s .memory) ≡ 32768 → GoodStanding s book →
-      s .steps + budget ≤ ceiling → sizeOf image ≤ length marks →
-      Resumes image limits marks (s .memory) (saved (s .registers) (s .steps) .bytes) budget r marks′ memory′ →
+  resumes-once : {marks bytes marks′ memory′ : List ℕ} {r : Resumed} (s : Standing) (budget : ℕ) (book : Book) → length (s .memory) ≡ 32768 → GoodStanding s book →
+      s .steps + budget ≤ ceiling → sizeOf image ≤ length marks → RecordOf s bytes → Resumes image limits marks (s .memory) bytes budget r marks′ memory′ →
       record { registers = r .registers; steps = r .steps; memory = memory′ } ≡ cameTo (s .steps) (ran budget image limits (s .registers) (s .memory))
-  resumes-once {marks} s budget book size good few enough resumes =
-      let reads = saved-reads (s .registers) (s .steps) (saving-passes (s .registers) (s .steps) (good-pc image limits depth need code _ good) (omega arith)) in
+  resumes-once {marks} s budget book size good few enough kept resumes =
+      let reads = record-says s (good-pc image limits depth need code _ good) (omega arith) kept in
       let accept = accept-complete image limits marks depth need rules enough in
       let marked = good-marked image limits depth need rules marks enough good in
       let runs = good-runs size (accept .2) (reads .0) (book, rw (reads .1) marked) resumes in
@@ -84,11 +82,11 @@ module _ (image : List ℕ) (bytes : Bytes image) (limits : Limits) (depth need 
       end ≡ cameTo (s .steps) (ran (total budgets) image limits (s .registers) (s .memory))
   unfolding total
   resumptions-join [] s end book size good few none = stays image limits s
-  resumptions-join (budget ∷ budgets) s end book size good few (again enough resumes rest) =
+  resumptions-join (budget ∷ budgets) s end book size good few (again enough kept resumes rest) =
       let p = pointAt (s .registers) (s .memory) book in
       let first = ran budget image limits (s .registers) (s .memory) in
       let after = good-run image limits depth need code budget p size good in
-      let once = resumes-once s budget book size good (omega arith) enough resumes in
+      let once = resumes-once s budget book size good (omega arith) enough kept resumes in
       let most = steps-most budget image limits (s .registers) (s .memory) in
       resumptions-join budgets (cameTo (s .steps) first) end (ranPoint accepted budget p .book) (after .1) (after .0) (omega arith) (rw once at rest) ∙
       sym (in-two image limits depth need code (s .steps) budget (total budgets) p size good)
@@ -106,8 +104,8 @@ module _ (image : List ℕ) (bytes : Bytes image) (limits : Limits) (depth need 
       resumptions-join budgets (cameTo 0 first) end (ranPoint accepted budget p .book) (after .1) (after .0) (omega arith) pauses ∙
       sym (in-two image limits depth need code 0 budget (total budgets) p begin (t .good))
 
--- In a run from the start, with image, limits and memory unchanged, pausing anywhere, once or more, equals not pausing, under the sum of the budgets where
--- that is itself a budget, in registers, memory and steps.
+-- In a run from the start, with image, limits and memory unchanged, pausing anywhere, once or more, by records of either version, equals not pausing, under
+-- the sum of the budgets, in registers, memory and steps: not only where that is itself a budget, but up to the ceiling.
 pub pausing-equals : (image : List ℕ) → Bytes image → (limits : Limits) (marks memory : List ℕ) (a x y cc need count : ℕ) →
     started image limits marks memory a x y cc .started .verdict ≡ Accepted need count →
     (budget : ℕ) (budgets : List ℕ) (end : Standing) → budget + total budgets ≤ ceiling →

@@ -1,10 +1,10 @@
--- From a good record a resumption runs on; and a good point can be saved, with a total that the ceiling allows.
+-- From a good record a resumption runs on; a good point can be saved, and a record of it says where it stands.
 use Prim.Native.Nat.{ℕ, _+_, _-_, _≤_}
-use mathlib.Core.Path.{_≡_, sym, ap, _∙_}
+use mathlib.Core.Path.{_≡_, refl, sym, ap, _∙_}
 use mathlib.Core.List.{List}
 use native.Mathlib.Omega.{arith}
 use lib.ListN.{length}
-use Rattle.numbers.proofs.Checking.{first-pass, under-pass}
+use Rattle.numbers.proofs.Checking.{under-pass}
 use Rattle.image.specs.declared.Limits.{Limits}
 use Rattle.image.proofs.Measuring.{end-inside}
 use Rattle.rules.specs.declared.Verdict.{Verdict}
@@ -17,11 +17,13 @@ use Rattle.gate.specs.GoodPoint.{GoodPoint, finished, running}
 use Rattle.gate.proofs.CheckedCode.{CheckedCode}
 use Rattle.saved_state.specs.Sls.{savingNumber, saved, savedCheck, stateIn}
 use Rattle.saved_state.specs.declared.SavedState.{SavedState}
+use Rattle.saved_state.proofs.Trips.{written-passes, written-says, saved-reads}
 use Rattle.resuming.specs.Good.{Good}
 use Rattle.resuming.specs.Resuming.{ceiling, allowance, Ends, ranOn, ResumesAccepted, unreadable, not-good, resumed, Resumes, no-memory, refused, accepted}
 use Rattle.resuming.specs.declared.Resumed.{Resumed}
 use Rattle.resuming.proofs.Callers.{inside}
 use Rattle.resuming.proofs.ResumeNumbers.{not-accepted}
+use Rattle.pausing.specs.Pausing.{Standing, RecordOf, newer, older}
 
 -- resuming ran on: its answer is the run's, and what it came to
 pub record Came (image : List ℕ) (limits : Limits) (memory : List ℕ) (state : SavedState) (budget : ℕ) (r : Resumed) (after : List ℕ) : Type 0 where
@@ -53,15 +55,18 @@ module _ (image : List ℕ) (limits : Limits) (depth need : ℕ → ℕ) (code :
       omega (arith, at .here, end-inside image (at .routine) (at .listed), code .layout .top)
 
 -- so it is saved
-pub saving-passes : (regs : Registers) (steps : ℕ) → regs .pc ≤ 0xFFFF → steps ≤ ceiling → saved regs steps .number ≡ 0
+pub saving-passes : (regs : Registers) (steps : ℕ) → regs .pc ≤ 0xFFFF → saved regs steps .number ≡ 0
 unfolding saved savingNumber
-saving-passes regs steps low few = rw (under-pass 0xFFFF (regs .pc) 35 low, first-pass) (under-pass 0xFFFFFFFF steps 35 few)
+saving-passes regs steps low = under-pass 0xFFFF (regs .pc) 35 low
+
+-- and a record of where a run stands says that, in either version
+pub record-says : (s : Standing) → s .registers .pc ≤ 0xFFFF → s .steps ≤ ceiling → {bytes : List ℕ} → RecordOf s bytes →
+    (savedCheck bytes ≡ 0) × (stateIn bytes ≡ record { registers = s .registers; steps = s .steps })
+record-says s low few newer = saved-reads (s .registers) (s .steps) (saving-passes (s .registers) (s .steps) low) few
+record-says s low few (older fits) =
+    (written-passes 0x0001 refl (s .registers) (s .steps), written-says 0x0001 (s .registers) (s .steps) (omega arith))
 
 -- with an allowance that is the budget, where the ceiling is not met
 pub whole-budget : (budget : ℕ) (state : SavedState) → state .steps + budget ≤ ceiling → allowance budget state ≡ budget
 unfolding allowance
 whole-budget budget state few = omega arith
-
-pub allowance-most : (budget : ℕ) (state : SavedState) → state .steps ≤ ceiling → state .steps + allowance budget state ≤ ceiling
-unfolding allowance
-allowance-most budget state few = omega arith

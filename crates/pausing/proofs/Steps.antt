@@ -1,21 +1,14 @@
--- A run makes no more steps than its budget, and from a good point a run in two parts is one run, finished ones included.
-use Prim.Native.Nat.{ℕ, zero, suc, _+_, _≤_}
+-- From a good point a run in two parts is one run, finished ones included.
+use Prim.Native.Nat.{ℕ, _+_}
 use mathlib.Core.Path.{_≡_, ap}
 use mathlib.Core.Logic.{inl, inr}
 use mathlib.Core.List.{List}
 use native.Mathlib.Omega.{arith}
-use lib.Dec.{eqb}
 use lib.ListN.{length}
-use Rattle.numbers.proofs.Checking.{by-test}
 use Rattle.image.specs.declared.Limits.{Limits}
-use Rattle.execution.specs.declared.Registers.{Registers}
-use Rattle.execution.specs.declared.StepAnswer.{StepAnswer}
-use Rattle.execution.specs.declared.StepAnswer.the-variants as Step
-use Rattle.machine.specs.Step.{stepRefusal, stepped}
-use Rattle.machine.specs.Run.{Says, afterStep, noStepsLeft, ran, inParts}
+use Rattle.machine.specs.Run.{Says, ran, inParts}
 use Rattle.machine.specs.declared.Ran.{Ran}
 use Rattle.machine.specs.declared.RunAnswer.{RunAnswer}
-use Rattle.machine.specs.declared.RunAnswer.the-variants.{Finished}
 use Rattle.machine.proofs.RunEnds.{run-tells}
 use Rattle.machine.proofs.RunLaws.{finished-at-once}
 use Rattle.machine.proofs.RunParts.{run-in-parts}
@@ -26,21 +19,6 @@ use Rattle.gate.proofs.AnyStep.{valid}
 use Rattle.resuming.specs.Internal.{Untrapped}
 use Rattle.resuming.proofs.GoodRuns.{ends-well, good-run}
 use Rattle.pausing.specs.Pausing.{cameTo}
-
-after-most : (budget : ℕ) (regs : Registers) (memory : List ℕ) (answer : StepAnswer) (rest : Ran × List ℕ) → rest .0 .steps ≤ budget →
-    afterStep answer regs memory rest .0 .steps ≤ suc budget
-after-most budget regs memory Step.Made rest h = omega arith
-after-most budget regs memory Step.Finished rest h = omega arith
-after-most budget regs memory (Step.Trap n) rest h = omega arith
-after-most budget regs memory (Step.Refused n) rest h = omega arith
-
-pub steps-most : (budget : ℕ) (image : List ℕ) (limits : Limits) (regs : Registers) (memory : List ℕ) → ran budget image limits regs memory .0 .steps ≤ budget
-unfolding ran noStepsLeft
-steps-most zero image limits regs memory =
-    by-test (λ (r : Ran × List ℕ). r .0 .steps ≤ 0) (eqb (stepRefusal image limits memory) 0) (λ t. omega arith) (λ t. omega arith)
-steps-most (suc budget) image limits regs memory =
-    let s = stepped image limits regs memory in
-    after-most budget regs memory (s .0 .answer) (ran budget image limits (s .0 .registers) (s .1)) (steps-most budget image limits (s .0 .registers) (s .1))
 
 -- by how the first part ended
 two-parts : (steps budget : ℕ) (first second whole : Ran × List ℕ) (answer : RunAnswer) → Untrapped answer → Says budget (first .0) answer →

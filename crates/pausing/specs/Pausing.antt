@@ -13,7 +13,7 @@ use Rattle.machine.specs.declared.Ran.{Ran}
 use Rattle.gate.specs.History.{Book, Request, run, pointOf, history}
 use Rattle.gate.specs.Guarantee.{All, Allowed, Holds}
 use Rattle.gate.specs.GoodPoint.{GoodPoint}
-use Rattle.saved_state.specs.Sls.{saved, savedCheck, stateIn}
+use Rattle.saved_state.specs.Sls.{stateBytes, saved, savedCheck, stateIn}
 use Rattle.resuming.specs.declared.ResumeAnswer.{ResumeAnswer}
 use Rattle.resuming.specs.declared.ResumeAnswer.the-variants.{Finished, Spent, Refused}
 use Rattle.resuming.specs.declared.Resumed.{Resumed}
@@ -56,10 +56,15 @@ pub record Standing : Type 0 where
 abbrev pub cameTo : ℕ → Ran × List ℕ → Standing
 cameTo steps r = record { registers = r .0 .registers; steps = steps + r .0 .steps; memory = r .1 }
 
--- From standing to standing, a budget for each resumption: what is saved is resumed, with the image, the limits and the memory unchanged and marks enough.
+-- a record of where a run stands, in either version: as it is saved, or as version 0001 has it where its 32 bits hold the steps
+pub data RecordOf (s : Standing) : List ℕ → Type 0 where
+  newer : RecordOf s (saved (s .registers) (s .steps) .bytes)
+  older : s .steps ≤ 0xFFFFFFFF → RecordOf s (stateBytes 0x0001 (s .registers) (s .steps))
+
+-- From standing to standing, a budget for each resumption: a record of it is resumed, with the image, the limits and the memory unchanged and marks enough.
 pub data Resumptions (image : List ℕ) (limits : Limits) : List ℕ → Standing → Standing → Type 0 where
   none : {s : Standing} → Resumptions image limits [] s s
-  again : {budget : ℕ} {budgets marks marks′ memory′ : List ℕ} {r : Resumed} {s end : Standing} → sizeOf image ≤ length marks →
-      Resumes image limits marks (s .memory) (saved (s .registers) (s .steps) .bytes) budget r marks′ memory′ →
+  again : {budget : ℕ} {budgets marks bytes marks′ memory′ : List ℕ} {r : Resumed} {s end : Standing} → sizeOf image ≤ length marks → RecordOf s bytes →
+      Resumes image limits marks (s .memory) bytes budget r marks′ memory′ →
       Resumptions image limits budgets (record { registers = r .registers; steps = r .steps; memory = memory′ }) end →
       Resumptions image limits (budget ∷ budgets) s end

@@ -22,9 +22,9 @@ use Rattle.resuming.specs.declared.Resumed.{Resumed}
 abbrev pub zerosFor : ℕ → ℕ → Resumed
 zerosFor number offset = record { answer = Refused number offset; registers = zeros; steps = 0; cycles = 0 }
 
--- A resumed run is also spent when its total reaches 4,294,967,295: so many steps can be made.
+-- A resumed run is also spent when its total reaches 18,446,744,073,709,551,615, whatever the record's version: so many steps can be made.
 abbrev pub ceiling : ℕ
-ceiling = 4294967295
+ceiling = 18446744073709551615
 
 unfoldable pub allowance : ℕ → SavedState → ℕ
 allowance budget state = min budget (ceiling - state .steps)

@@ -3,7 +3,6 @@ mod frames;
 mod good;
 
 ghost use mathlib.Core.Path.{_≡_};
-ghost use Prim.Native.Nat.{_≤_};
 ghost use lib.ListN.{length};
 ghost use Rattle.machine.specs.Run.{ran};
 ghost use Rattle.resuming.specs.Resuming.{zerosFor, allowance, Ends, ranOn, ResumesAccepted, Resumes};
@@ -56,12 +55,11 @@ fn refused(number: u8, offset: u16) -> Resumed
     }
 }
 
-// The steps that a part may make: no total passes 4,294,967,295.
+// The steps that a part may make: no total passes 18,446,744,073,709,551,615.
 fn allowance_of(budget: u32, state: SavedState) -> u32
-    requires { ⌜ state .steps ≤ 0xFFFFFFFF ⌝ }
     ensures { λ r. ⌜ r ≡ allowance budget state ⌝ }
 {
-    let left = 0xFFFFFFFF - state.steps;
+    let left = 0xFFFFFFFFFFFFFFFF - state.steps;
     if left < budget as u64 {
         left as u32
     } else {
@@ -88,7 +86,6 @@ fn run_on(
     state: SavedState,
     budget: u32,
 ) -> Resumed
-    requires { ⌜ state .steps ≤ 0xFFFFFFFF ⌝ }
     requires { ⌜ Untrapped (ran (allowance budget state) (now image) limits (state .registers) (now memory) .0 .answer) ⌝ }
     ensures { λ r. ⌜ Ends (ran (allowance budget state) (now (image .entry)) limits (state .registers) (now (memory .entry)) .0 .answer) (r .answer) ⌝ }
     ensures { λ r. ⌜ (r, now (memory .exit)) ≡ ranOn (now (image .entry)) limits (now (memory .entry)) state budget (r .answer) ⌝ }

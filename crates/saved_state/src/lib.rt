@@ -1,7 +1,7 @@
-// Saved states: registers and steps as SLS records of 19 bytes, written and read.
+// Saved states: registers and steps as SLS records, written as version 0002, of 23 bytes, and read as that or as version 0001, of 19.
 ghost use mathlib.Core.Path.{_≡_};
 ghost use Prim.Native.Nat.{_≤_};
-ghost use Rattle.saved_state.specs.Sls.{stateBytes, savingNumber, saved, savedCheck, stateIn};
+ghost use Rattle.saved_state.specs.Sls.{known as isKnown, stepBytes, numberBytes, numberAt, stateBytes, savingNumber, saved, savedCheck, stateIn};
 use execution::Registers;
 use numbers::checks::differ;
 use numbers::checks::first;
@@ -10,7 +10,10 @@ use numbers::checks::unless;
 use numbers::words::byte_at;
 use numbers::words::word_at;
 
-// Registers, and the steps made so far. A record has 32 bits for these.
+// The version that is written.
+const WRITTEN: u8 = 2;
+
+// Registers, and the steps made so far.
 pub struct SavedState {
     pub registers: Registers,
     pub steps: u64,
@@ -19,30 +22,71 @@ pub struct SavedState {
 // What saving answers: 0 and a record, or 35 and bytes all 00.
 pub struct Saved {
     pub number: u8,
-    pub bytes: [u8; 19],
+    pub bytes: [u8; 23],
 }
 
-// 35 where PC or the steps have more bits than a record has for them.
-fn saving_number(registers: Registers, steps: u64) -> u8
-    ensures { λ r. ⌜ r ≡ savingNumber registers steps ⌝ }
+// Whether there is such a version.
+fn known(version: u16) -> bool
+    ensures { λ r. ⌜ r ≡ isKnown version ⌝ }
 {
-    first(
-        under(0xFFFF, registers.pc as usize, 35),
-        under(0xFFFFFFFF, steps as usize, 35),
-    )
+    if version == 1 { true } else { version == 2 }
 }
 
-// The bytes of a record.
-fn state_bytes(r: Registers, steps: u64) -> [u8; 19]
-    requires { ⌜ (r .pc ≤ 0xFFFF) × (steps ≤ 0xFFFFFFFF) ⌝ }
-    ensures { λ b. ⌜ b ≡ stateBytes r steps ⌝ }
+// How many bytes a record of a version has for the steps.
+fn step_bytes(version: u16) -> usize
+    ensures { λ r. ⌜ r ≡ stepBytes version ⌝ }
 {
+    if version == 1 { 4 } else { 8 }
+}
+
+// A number as eight bytes, high bytes first.
+fn number_bytes(number: u64) -> [u8; 8]
+    ensures { λ b. ⌜ b ≡ numberBytes 8 number ⌝ }
+{
+    let mut bytes = [0u8; 8];
+    let mut left = number;
+    let mut at = 8usize;
+    while 0 < at {
+        at -= 1;
+        bytes[at] = (left % 256) as u8;
+        left /= 256;
+    }
+    bytes
+}
+
+// The steps that a record says in so many bytes, high bytes first; a byte past its end counts as 0.
+fn steps_of(bytes: &[u8], width: usize) -> u64
+    requires { ⌜ width ≤ 8 ⌝ }
+    ensures { λ r. ⌜ r ≡ numberAt (now (bytes .entry)) 15 width ⌝ }
+{
+    let mut steps = 0u64;
+    let mut read = 0;
+    while read < width {
+        steps = steps * 256 + byte_at(bytes, 15 + read) as u64;
+        read += 1;
+    }
+    steps
+}
+
+// 35 where PC has more bits than a record has for it.
+fn saving_number(registers: Registers) -> u8
+    ensures { λ r. ⌜ r ≡ savingNumber registers ⌝ }
+{
+    under(0xFFFF, registers.pc as usize, 35)
+}
+
+// The bytes of a record of the version that is written.
+fn state_bytes(r: Registers, steps: u64) -> [u8; 23]
+    requires { ⌜ r .pc ≤ 0xFFFF ⌝ }
+    ensures { λ b. ⌜ b ≡ stateBytes 0x0002 r steps ⌝ }
+{
+    let s = number_bytes(steps);
     [
         83,
         76,
         83,
         0,
-        1,
+        WRITTEN,
         (r.pc / 256) as u8,
         (r.pc % 256) as u8,
         (r.sp / 256) as u8,
@@ -53,10 +97,14 @@ fn state_bytes(r: Registers, steps: u64) -> [u8; 19]
         (r.y / 256) as u8,
         (r.y % 256) as u8,
         r.cc,
-        (steps / 65536 / 256) as u8,
-        (steps / 65536 % 256) as u8,
-        (steps % 65536 / 256) as u8,
-        (steps % 65536 % 256) as u8,
+        s[0],
+        s[1],
+        s[2],
+        s[3],
+        s[4],
+        s[5],
+        s[6],
+        s[7],
     ]
 }
 
@@ -64,11 +112,11 @@ fn state_bytes(r: Registers, steps: u64) -> [u8; 19]
 pub fn save(registers: Registers, steps: u64) -> Saved
     ensures { λ r. ⌜ r ≡ saved registers steps ⌝ }
 {
-    let number = saving_number(registers, steps);
+    let number = saving_number(registers);
     if number != 0 {
         return Saved {
             number,
-            bytes: [0u8; 19],
+            bytes: [0u8; 23],
         };
     }
     let bytes = state_bytes(registers, steps);
@@ -79,12 +127,13 @@ pub fn save(registers: Registers, steps: u64) -> Saved
 pub fn saved_check(bytes: &[u8]) -> u8
     ensures { λ r. ⌜ r ≡ savedCheck (now (bytes .entry)) ⌝ }
 {
-    if bytes.len() != 19 {
+    let version = word_at(bytes, 3);
+    if bytes.len() != 15 + step_bytes(version) {
         return 34;
     }
     first(
         unless(check::same(&bytes[..3], b"SLS"), 34),
-        differ(word_at(bytes, 3) as usize, 1, 34),
+        unless(known(version), 34),
     )
 }
 
@@ -100,8 +149,9 @@ pub fn state_in(bytes: &[u8]) -> SavedState
         sp: word_at(bytes, 7),
         pc: word_at(bytes, 5) as u32,
     };
+    let width = step_bytes(word_at(bytes, 3));
     SavedState {
         registers,
-        steps: word_at(bytes, 15) as u64 * 65536 + word_at(bytes, 17) as u64,
+        steps: steps_of(bytes, width),
     }
 }

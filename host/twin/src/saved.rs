@@ -1,4 +1,5 @@
-//! W-208: registers and steps as a saved state, 19 bytes, and running on from one.
+//! W-208 and W-209: registers and steps as a saved state, and running on from one. Written is version 0002, of 23 bytes; version
+//! 0001, of 19, is read as well.
 
 use crate::check::check;
 use crate::image::Image;
@@ -6,9 +7,12 @@ use crate::machine::{lent, run};
 use gate_host::{Ending, Limits, Refusal, Refused, Registers, SAVED_BYTES};
 use std::collections::HashMap;
 
-const VERSION: u16 = 0x0001;
-/// The most steps that a saved state holds, and so the most that a resumed run comes to in all.
-const CEILING: u32 = u32::MAX;
+/// The version that is written.
+const WRITTEN: u16 = 0x0002;
+/// The bytes before the steps, which all versions have alike: mark, version and registers.
+const HEAD_BYTES: usize = 15;
+/// The most steps that a resumed run comes to in all.
+const CEILING: u64 = u64::MAX;
 
 /// What a resumed run comes to.
 #[derive(Clone, Copy, Debug, PartialEq, Eq)]
@@ -21,26 +25,35 @@ pub struct Resumed {
     pub cycles: u64,
 }
 
-/// Saves registers and steps. 35 where PC or the steps have no room.
+/// Saves registers and steps. 35 where PC has no room.
 pub fn save(registers: &Registers, steps: u64) -> Result<[u8; SAVED_BYTES], Refusal> {
     let Registers { a, x, y, cc, sp, pc } = *registers;
-    let (Ok(pc), Ok(steps)) = (u16::try_from(pc), u32::try_from(steps)) else { return Err(Refusal::NotGood) };
+    let Ok(pc) = u16::try_from(pc) else { return Err(Refusal::NotGood) };
     let words = |words: [u16; 2]| words.map(u16::to_be_bytes).concat();
-    let parts = [b"SLS", &VERSION.to_be_bytes()[..], &words([pc, sp]), &[a], &words([x, y]), &[cc], &steps.to_be_bytes()];
+    let parts = [b"SLS", &WRITTEN.to_be_bytes()[..], &words([pc, sp]), &[a], &words([x, y]), &[cc], &steps.to_be_bytes()];
     let mut saved = [0; SAVED_BYTES];
     saved.copy_from_slice(&parts.concat());
     Ok(saved)
 }
 
-/// Registers and steps of a saved state, or 34.
-fn read(saved: &[u8]) -> Result<(Registers, u32), Refusal> {
-    let saved: &[u8; SAVED_BYTES] = saved.try_into().map_err(|_| Refusal::NotSls)?;
-    let word = |at: usize| u16::from_be_bytes([saved[at], saved[at + 1]]);
-    if !saved.starts_with(b"SLS") || word(3) != VERSION {
+/// The bytes of the steps in a version, if it is one of a saved state.
+fn step_bytes(version: u16) -> Option<usize> {
+    match version {
+        0x0001 => Some(4),
+        0x0002 => Some(8),
+        _ => None,
+    }
+}
+
+/// Registers and steps of a saved state of either version, or 34.
+fn read(saved: &[u8]) -> Result<(Registers, u64), Refusal> {
+    let (head, steps) = saved.split_first_chunk::<HEAD_BYTES>().ok_or(Refusal::NotSls)?;
+    let word = |at: usize| u16::from_be_bytes([head[at], head[at + 1]]);
+    if !head.starts_with(b"SLS") || step_bytes(word(3)) != Some(steps.len()) {
         return Err(Refusal::NotSls);
     }
-    let registers = Registers { pc: word(5).into(), sp: word(7), a: saved[9], x: word(10), y: word(12), cc: saved[14] };
-    Ok((registers, u32::from(word(15)) << 16 | u32::from(word(17))))
+    let registers = Registers { pc: word(5).into(), sp: word(7), a: head[9], x: word(10), y: word(12), cc: head[14] };
+    Ok((registers, steps.iter().fold(0, |sum, &byte| sum << 8 | u64::from(byte))))
 }
 
 /// Runs on from a saved state: 17, the whole check, 34 and 35 are tested before.
@@ -61,9 +74,10 @@ pub fn resume(
     if !frames.good(&registers) {
         return Err(Refusal::NotGood.into());
     }
-    let run = run(file, limits, memory, &mut registers, budget.min(CEILING - before))?;
-    let steps = u64::from(before) + u64::from(run.steps);
-    Ok(Resumed { ending: run.ending, registers, steps, cycles: run.cycles })
+    // Never more than the budget, so 32 bits hold it.
+    let left = u64::from(budget).min(CEILING - before) as u32;
+    let run = run(file, limits, memory, &mut registers, left)?;
+    Ok(Resumed { ending: run.ending, registers, steps: before + u64::from(run.steps), cycles: run.cycles })
 }
 
 /// An accepted image, and the stack whose frames are looked at.

@@ -93,6 +93,8 @@ struct Case<'a> {
     budget: u32,
     count: u32,
     steps: u64,
+    /// The version of the saved state.
+    sls: u32,
     saved: Option<Vec<u8>>,
     expected: &'a str,
 }
@@ -114,6 +116,7 @@ impl<'a> Case<'a> {
             budget: 0,
             count: bytes.split(' ').count() as u32,
             steps: 0,
+            sls: 2,
             saved: None,
             expected,
         };
@@ -142,6 +145,7 @@ impl<'a> Case<'a> {
             "budget" => self.budget = decimal(),
             "count" => self.count = decimal(),
             "steps" => self.steps = value.parse().expect("decimal"),
+            "sls" => self.sls = number(value),
             "saved" => self.saved = Some(row(value)),
             "A" => self.registers.a = number(value) as u8,
             "X" => self.registers.x = number(value) as u16,
@@ -263,8 +267,12 @@ impl<'a> Case<'a> {
         let Registers { a, x, y, cc, sp, pc } = self.registers;
         let word = u16::to_be_bytes;
         let laid_out = || {
-            let parts = [&b"SLS\x00\x01"[..], &word(pc as u16), &word(sp), &[a], &word(x), &word(y), &[cc]];
-            [&parts.concat()[..], &(self.steps as u32).to_be_bytes()].concat()
+            let steps = match self.sls {
+                1 => u32::try_from(self.steps).expect("steps of version 0001").to_be_bytes().to_vec(),
+                _ => self.steps.to_be_bytes().to_vec(),
+            };
+            let version = word(self.sls as u16);
+            [b"SLS", &version[..], &word(pc as u16), &word(sp), &[a], &word(x), &word(y), &[cc], &steps].concat()
         };
         self.saved.clone().unwrap_or_else(laid_out)
     }

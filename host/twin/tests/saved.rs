@@ -1,9 +1,10 @@
-//! W-208: saved states, which of them are good, and running on from them. Through the library and through the twin.
+//! W-208 and W-209: saved states in either version, which of them are good, and running on from them. Through the library and
+//! through the twin.
 
 mod both;
 mod resumes;
 
-use both::{assembled, run, step, BEGIN, LIMITS};
+use both::{assembled, hexadecimal, run, step, BEGIN, LIMITS};
 use gate_host::cells::{self, FINISHED, OK, SPENT};
 use gate_host::{Area, Ending, Limits, Registers, Run, Step, MARKS_ENOUGH, MEMORY_BYTES, SAVED_BYTES};
 use gate_twin::slu;
@@ -11,7 +12,9 @@ use resumes::{library_resume, library_save, twin_resume, twin_save, Answer};
 
 const NOT_SLS: u8 = 34;
 const NOT_GOOD: u8 = 35;
-const CEILING: u64 = 4_294_967_295;
+const CEILING: u64 = 18_446_744_073_709_551_615;
+/// The most steps that version 0001 holds.
+const MOST_IN_0001: u64 = 4_294_967_295;
 /// What a mark holds before a call.
 const BLANK: u16 = 0xA5A5;
 
@@ -26,6 +29,14 @@ fn saved(registers: Registers, steps: u64) -> [u8; SAVED_BYTES] {
     let (number, saved) = save(&registers, steps);
     assert_eq!(number, OK, "{registers:04X?}");
     saved
+}
+
+/// The same in version 0001, which is no longer written, if it has room for the steps.
+fn in_version_0001(registers: Registers, steps: u64) -> Option<Vec<u8>> {
+    let Registers { a, x, y, cc, sp, pc } = registers;
+    let steps = u32::try_from(steps).ok()?.to_be_bytes();
+    let [pc, sp, x, y] = [pc as u16, sp, x, y].map(u16::to_be_bytes);
+    Some([b"SLS\x00\x01", &pc[..], &sp, &[a], &x, &y, &[cc], &steps].concat())
 }
 
 /// What a resumed run comes to, and the memory then. Marks are those of a check, and unchanged after 17; refused, all else is
@@ -50,9 +61,26 @@ fn resume(file: &[u8], limits: &Limits, memory: &[u8], saved: &[u8], budget: u32
     (answer, one)
 }
 
+/// As `resume`, from the saved state of such registers and steps: the same in either version that has room for them.
+fn resume_from(
+    file: &[u8],
+    limits: &Limits,
+    memory: &[u8],
+    (registers, steps): (Registers, u64),
+    budget: u32,
+) -> (Answer, Vec<u8>) {
+    let outcome = resume(file, limits, memory, &saved(registers, steps), budget);
+    if let Some(saved) = in_version_0001(registers, steps) {
+        let (answer, left) = resume(file, limits, memory, &saved, budget);
+        assert_eq!(answer, outcome.0, "{file:02X?} {saved:02X?}");
+        assert!(left == outcome.1, "memory: {file:02X?} {saved:02X?}");
+    }
+    outcome
+}
+
 /// The number that resuming with no budget answers.
 fn number(file: &[u8], memory: &[u8], registers: Registers) -> u8 {
-    resume(file, &LIMITS, memory, &saved(registers, 7), 0).0.number
+    resume_from(file, &LIMITS, memory, (registers, 7), 0).0.number
 }
 
 fn at(pc: u32, sp: u16) -> Registers {
@@ -93,28 +121,50 @@ const STARTS: [(u32, u16); 13] = [
 #[test]
 fn each_byte_has_its_place() {
     let registers = Registers { a: 0xA1, x: 0xB2C3, y: 0xD4E5, cc: 0xF6, sp: 0x0718, pc: 0x293A };
-    let expected = *b"SLS\x00\x01\x29\x3A\x07\x18\xA1\xB2\xC3\xD4\xE5\xF6\x4B\x5C\x6D\x7E";
-    assert_eq!(save(&registers, 0x4B5C_6D7E), (OK, expected));
-    let lowest = *b"SLS\x00\x01\x00\x00\x00\x00\x00\x00\x00\x00\x00\x00\x00\x00\x00\x00";
+    let expected = *b"SLS\x00\x02\x29\x3A\x07\x18\xA1\xB2\xC3\xD4\xE5\xF6\x4B\x5C\x6D\x7E\x8F\x90\x0A\x1B";
+    assert_eq!(save(&registers, 0x4B5C_6D7E_8F90_0A1B), (OK, expected));
+    let lowest = *b"SLS\x00\x02\x00\x00\x00\x00\x00\x00\x00\x00\x00\x00\x00\x00\x00\x00\x00\x00\x00\x00";
     assert_eq!(save(&Registers::default(), 0), (OK, lowest));
     let most = Registers { a: 0xFF, x: 0xFFFF, y: 0xFFFF, cc: 0xFF, sp: 0xFFFF, pc: 0xFFFF };
-    let highest = *b"SLS\x00\x01\xFF\xFF\xFF\xFF\xFF\xFF\xFF\xFF\xFF\xFF\xFF\xFF\xFF\xFF";
+    let highest = *b"SLS\x00\x02\xFF\xFF\xFF\xFF\xFF\xFF\xFF\xFF\xFF\xFF\xFF\xFF\xFF\xFF\xFF\xFF\xFF\xFF";
     assert_eq!(save(&most, CEILING), (OK, highest));
 }
 
 #[test]
-fn what_has_no_room_is_not_saved() {
+fn every_number_of_steps_is_saved() {
+    for (steps, bytes) in [
+        (0, "00 00 00 00 00 00 00 00"),
+        (1, "00 00 00 00 00 00 00 01"),
+        (65_536, "00 00 00 00 00 01 00 00"),
+        (2_147_483_648, "00 00 00 00 80 00 00 00"),
+        (4_294_967_295, "00 00 00 00 FF FF FF FF"),
+        (4_294_967_296, "00 00 00 01 00 00 00 00"),
+        (4_294_967_297, "00 00 00 01 00 00 00 01"),
+        (1_000_000_000_000, "00 00 00 E8 D4 A5 10 00"),
+        (9_223_372_036_854_775_807, "7F FF FF FF FF FF FF FF"),
+        (9_223_372_036_854_775_808, "80 00 00 00 00 00 00 00"),
+        (18_446_744_073_709_551_614, "FF FF FF FF FF FF FF FE"),
+        (18_446_744_073_709_551_615, "FF FF FF FF FF FF FF FF"),
+    ] {
+        let head = *b"SLS\x00\x02\x80\x00\x03\xFD\x00\x00\x00\x00\x00\x00";
+        assert_eq!(saved(BEGIN, steps)[..], [&head[..], &hexadecimal(bytes)].concat(), "{steps}");
+    }
+    for bit in 0..64 {
+        let (number, saved) = save(&BEGIN, 1 << bit);
+        let set = |at: usize| if at == 22 - bit / 8 { 1 << (bit % 8) } else { 0 };
+        assert_eq!((number, saved[15..].to_vec()), (OK, (15..23).map(set).collect()), "bit {bit}");
+    }
+}
+
+#[test]
+fn a_pc_above_ffff_is_not_saved() {
     for bit in 16..32 {
         for low in [0x0000, 0x8000, 0xFFFF] {
-            assert_eq!(save(&at(low | 1 << bit, 0x03FD), 1), (NOT_GOOD, [0; SAVED_BYTES]), "bit {bit}");
+            for steps in [0, 1, MOST_IN_0001, MOST_IN_0001 + 1, CEILING] {
+                assert_eq!(save(&at(low | 1 << bit, 0x03FD), steps), (NOT_GOOD, [0; SAVED_BYTES]), "bit {bit}, {steps}");
+            }
         }
     }
-    for bit in 32..64 {
-        for low in [0, 1, CEILING] {
-            assert_eq!(save(&BEGIN, low | 1 << bit), (NOT_GOOD, [0; SAVED_BYTES]), "bit {bit}");
-        }
-    }
-    assert_eq!(save(&at(0x1_0000, 0x03FD), CEILING + 1), (NOT_GOOD, [0; SAVED_BYTES]));
 }
 
 /// A and CC are read by their low 8 bits, X, Y and SP by their low 16, PC whole.
@@ -123,7 +173,7 @@ fn cells_are_read_as_a_step_reads_them() {
     let mut saved = [0xA5; SAVED_BYTES];
     let wide = [0x5501, 0x5500_0002, 0x5500_0003, 0x5504, 0x5500_0005, 0x0006];
     assert_eq!(cells::save(&wide, 7, &mut saved), OK);
-    assert_eq!(saved, *b"SLS\x00\x01\x00\x06\x00\x05\x01\x00\x02\x00\x03\x04\x00\x00\x00\x07");
+    assert_eq!(saved, *b"SLS\x00\x02\x00\x06\x00\x05\x01\x00\x02\x00\x03\x04\x00\x00\x00\x00\x00\x00\x00\x07");
     assert_eq!(cells::save(&[1, 2, 3, 4, 5, 0x5500_0006], 7, &mut saved), NOT_GOOD);
     assert_eq!(saved, [0; SAVED_BYTES]);
 }
@@ -152,8 +202,9 @@ impl States {
         States { file, limits, states }
     }
 
-    /// Goes on from a state by resumed runs of such budgets, one after another, up to the last state.
-    fn goes_on(&self, from: usize, budgets: &[u32]) {
+    /// Goes on from a state by resumed runs of such budgets, one after another, up to the last state. The first state has so many
+    /// steps.
+    fn goes_on(&self, first: u64, from: usize, budgets: &[u32]) {
         let last = self.states.len() - 1;
         let ends = self.states[last].0.pc == 0;
         let (registers, memory, _) = &self.states[from];
@@ -161,14 +212,15 @@ impl States {
         for &budget in budgets.iter().cycle() {
             // Only at an end more budget changes nothing.
             let budget = if ends { budget } else { budget.min((last - now) as u32) };
-            let (answer, left) = resume(&self.file, &self.limits, &memory, &saved(registers, now as u64), budget);
+            let before = (registers, first + now as u64);
+            let (answer, left) = resume_from(&self.file, &self.limits, &memory, before, budget);
             let then = last.min(now + budget as usize);
             let expected = &self.states[then];
             let ending = if expected.0.pc == 0 { FINISHED } else { SPENT };
             let cycles = expected.2 - self.states[now].2;
-            let answered = Answer { number: ending, offset: 0, registers: expected.0, steps: then as u64, cycles };
-            assert_eq!(answer, answered, "{:02X?} from {from}", self.file);
-            assert!(left == expected.1, "memory: {:02X?} from {from}", self.file);
+            let answered = Answer { number: ending, offset: 0, registers: expected.0, steps: first + then as u64, cycles };
+            assert_eq!(answer, answered, "{:02X?} from {first} and {from}", self.file);
+            assert!(left == expected.1, "memory: {:02X?} from {first} and {from}", self.file);
             (registers, memory, now) = (answer.registers, left, then);
             if now == last {
                 break;
@@ -176,12 +228,15 @@ impl States {
         }
     }
 
-    /// Pauses after every step, and goes on at once, step by step and in pieces.
+    /// Pauses after every step, and goes on at once, step by step and in pieces: as it is, with a total that comes to more than
+    /// version 0001 holds, and with one that comes to the ceiling.
     fn pause_everywhere(&self) {
         let last = self.states.len() - 1;
-        for from in 0..=last {
-            for budgets in [&[(last - from) as u32][..], &[1], &[0, 3], &[2, 0, 5]] {
-                self.goes_on(from, budgets);
+        for first in [0, MOST_IN_0001 - 2, CEILING - last as u64] {
+            for from in 0..=last {
+                for budgets in [&[(last - from) as u32][..], &[1], &[0, 3], &[2, 0, 5]] {
+                    self.goes_on(first, from, budgets);
+                }
             }
         }
     }
@@ -261,7 +316,7 @@ fn all_other_bytes_are_free() {
         FRAMES.iter().for_each(|&(address, byte)| memory[address] = byte);
         for (pc, sp) in STARTS {
             let registers = Registers { a: seed, x: 0x0101 * u16::from(seed), y: !u16::from(seed), cc: seed ^ 0xFF, sp, pc };
-            let (answer, left) = resume(&file, &LIMITS, &memory, &saved(registers, 100), 50);
+            let (answer, left) = resume_from(&file, &LIMITS, &memory, (registers, 100), 50);
             let (Ok(Run { ending: Ending::Finished, steps, cycles }), after, then) = run(&file, &LIMITS, registers, &memory, 50)
             else {
                 panic!("{registers:04X?}")
@@ -340,7 +395,7 @@ fn the_greatest_depth() {
     let file = assembled(2, "81 | 52 FF CD 80 00 5B FF 81");
     for (sp, good) in [(0x02FC, true), (0x02FB, false), (0x02FD, false), (0x03FB, false), (0x02FA, false)] {
         let memory = memory(&[(usize::from(sp) + 1, 0x80), (usize::from(sp) + 2, 0x06)]);
-        let answer = resume(&file, &limits, &memory, &saved(at(0x8000, sp), 0), 0).0;
+        let answer = resume_from(&file, &limits, &memory, (at(0x8000, sp), 0), 0).0;
         assert_eq!(answer.number, if good { SPENT } else { NOT_GOOD }, "{sp:04X}");
     }
 }
@@ -355,41 +410,96 @@ fn main_has_returned() {
         assert_eq!(number(&file, &memory, at(0, sp)), expected, "{sp:04X}");
     }
     for budget in [0, 1, u32::MAX] {
-        let registers = Registers { a: 1, x: 2, y: 3, cc: 4, sp: 0x03FF, pc: 0 };
-        let (answer, left) = resume(&file, &LIMITS, &memory, &saved(registers, 1_000), budget);
-        assert_eq!(answer, Answer { number: FINISHED, offset: 0, registers, steps: 1_000, cycles: 0 });
-        assert!(left == memory);
+        for steps in [0, 1_000, MOST_IN_0001, MOST_IN_0001 + 1, CEILING - 1, CEILING] {
+            let registers = Registers { a: 1, x: 2, y: 3, cc: 4, sp: 0x03FF, pc: 0 };
+            let (answer, left) = resume_from(&file, &LIMITS, &memory, (registers, steps), budget);
+            assert_eq!(answer, Answer { number: FINISHED, offset: 0, registers, steps, cycles: 0 });
+            assert!(left == memory);
+        }
     }
 }
 
-// The ceiling.
+// The total.
+
+/// Code, PC, the steps before and the budget; the number, the total, PC and cycles of what it comes to.
+type Total<'a> = (&'a str, u32, u64, u32, u8, u64, u32, u64);
+
+/// JRA to itself has 2 cycles, NOP 1 and RET 4.
+const ENDLESS: &str = "20 FE";
+const SHORT: &str = "9D 9D 81";
+
+const TOTALS: &[Total] = &[
+    (SHORT, 0x8000, 0, u32::MAX, FINISHED, 3, 0, 6),
+    // What version 0001 holds, and more.
+    (ENDLESS, 0x8000, 4_294_967_292, 2, SPENT, 4_294_967_294, 0x8000, 4),
+    (ENDLESS, 0x8000, 4_294_967_292, 3, SPENT, 4_294_967_295, 0x8000, 6),
+    (ENDLESS, 0x8000, 4_294_967_292, 4, SPENT, 4_294_967_296, 0x8000, 8),
+    (ENDLESS, 0x8000, 4_294_967_295, 0, SPENT, 4_294_967_295, 0x8000, 0),
+    (ENDLESS, 0x8000, 4_294_967_295, 1, SPENT, 4_294_967_296, 0x8000, 2),
+    (ENDLESS, 0x8000, 4_294_967_295, 9, SPENT, 4_294_967_304, 0x8000, 18),
+    (ENDLESS, 0x8000, 4_294_967_296, 9, SPENT, 4_294_967_305, 0x8000, 18),
+    (SHORT, 0x8000, 4_294_967_292, u32::MAX, FINISHED, 4_294_967_295, 0, 6),
+    (SHORT, 0x8000, 4_294_967_293, u32::MAX, FINISHED, 4_294_967_296, 0, 6),
+    (SHORT, 0x8000, 4_294_967_295, u32::MAX, FINISHED, 4_294_967_298, 0, 6),
+    (SHORT, 0x8002, 4_294_967_295, 1, FINISHED, 4_294_967_296, 0, 4),
+    // A carry from 32 bits to 64, and the highest bit.
+    (ENDLESS, 0x8000, 8_589_934_591, 2, SPENT, 8_589_934_593, 0x8000, 4),
+    (ENDLESS, 0x8000, 9_223_372_036_854_775_806, 1, SPENT, 9_223_372_036_854_775_807, 0x8000, 2),
+    (ENDLESS, 0x8000, 9_223_372_036_854_775_807, 2, SPENT, 9_223_372_036_854_775_809, 0x8000, 4),
+    (SHORT, 0x8000, 9_223_372_036_854_775_807, 9, FINISHED, 9_223_372_036_854_775_810, 0, 6),
+    // The steps left to the ceiling are 4,294,967,296 and 4,294,967,298: 0 and 2 in 32 bits.
+    (ENDLESS, 0x8000, 18_446_744_069_414_584_319, 5, SPENT, 18_446_744_069_414_584_324, 0x8000, 10),
+    (ENDLESS, 0x8000, 18_446_744_069_414_584_317, 5, SPENT, 18_446_744_069_414_584_322, 0x8000, 10),
+    // The ceiling.
+    (ENDLESS, 0x8000, 18_446_744_073_709_551_612, 2, SPENT, 18_446_744_073_709_551_614, 0x8000, 4),
+    (ENDLESS, 0x8000, 18_446_744_073_709_551_612, 3, SPENT, 18_446_744_073_709_551_615, 0x8000, 6),
+    (ENDLESS, 0x8000, 18_446_744_073_709_551_612, 4, SPENT, 18_446_744_073_709_551_615, 0x8000, 6),
+    (ENDLESS, 0x8000, 18_446_744_073_709_551_612, u32::MAX, SPENT, 18_446_744_073_709_551_615, 0x8000, 6),
+    (ENDLESS, 0x8000, 18_446_744_073_709_551_615, 0, SPENT, 18_446_744_073_709_551_615, 0x8000, 0),
+    (ENDLESS, 0x8000, 18_446_744_073_709_551_615, 1, SPENT, 18_446_744_073_709_551_615, 0x8000, 0),
+    (ENDLESS, 0x8000, 18_446_744_073_709_551_615, u32::MAX, SPENT, 18_446_744_073_709_551_615, 0x8000, 0),
+    (SHORT, 0x8000, 18_446_744_073_709_551_611, u32::MAX, FINISHED, 18_446_744_073_709_551_614, 0, 6),
+    (SHORT, 0x8000, 18_446_744_073_709_551_612, u32::MAX, FINISHED, 18_446_744_073_709_551_615, 0, 6),
+    (SHORT, 0x8000, 18_446_744_073_709_551_612, 3, FINISHED, 18_446_744_073_709_551_615, 0, 6),
+    (SHORT, 0x8000, 18_446_744_073_709_551_613, u32::MAX, SPENT, 18_446_744_073_709_551_615, 0x8002, 2),
+    (SHORT, 0x8000, 18_446_744_073_709_551_613, 3, SPENT, 18_446_744_073_709_551_615, 0x8002, 2),
+    (SHORT, 0x8002, 18_446_744_073_709_551_614, 1, FINISHED, 18_446_744_073_709_551_615, 0, 4),
+    (SHORT, 0x8002, 18_446_744_073_709_551_615, 1, SPENT, 18_446_744_073_709_551_615, 0x8002, 0),
+];
 
 #[test]
-fn the_ceiling_of_the_total() {
-    let image = |code| assembled(2, code);
-    let (endless, short) = (image("20 FE"), image("9D 9D 81"));
-    for (file, pc, steps, budget, number, total, pc_then) in [
-        (&endless, 0x8000, CEILING - 3, 2, SPENT, CEILING - 1, 0x8000),
-        (&endless, 0x8000, CEILING - 3, 3, SPENT, CEILING, 0x8000),
-        (&endless, 0x8000, CEILING - 3, 4, SPENT, CEILING, 0x8000),
-        (&endless, 0x8000, CEILING - 3, u32::MAX, SPENT, CEILING, 0x8000),
-        (&endless, 0x8000, CEILING, 0, SPENT, CEILING, 0x8000),
-        (&endless, 0x8000, CEILING, 1, SPENT, CEILING, 0x8000),
-        (&endless, 0x8000, CEILING, u32::MAX, SPENT, CEILING, 0x8000),
-        (&short, 0x8000, CEILING - 4, u32::MAX, FINISHED, CEILING - 1, 0),
-        (&short, 0x8000, CEILING - 3, u32::MAX, FINISHED, CEILING, 0),
-        (&short, 0x8000, CEILING - 3, 3, FINISHED, CEILING, 0),
-        (&short, 0x8000, CEILING - 2, u32::MAX, SPENT, CEILING, 0x8002),
-        (&short, 0x8000, CEILING - 2, 3, SPENT, CEILING, 0x8002),
-        (&short, 0x8002, CEILING - 1, 1, FINISHED, CEILING, 0),
-        (&short, 0x8002, CEILING, 1, SPENT, CEILING, 0x8002),
-        (&short, 0x8000, 0, u32::MAX, FINISHED, 3, 0),
-    ] {
-        let (answer, _) = resume(file, &LIMITS, &memory(&[]), &saved(at(pc, 0x03FD), steps), budget);
-        assert_eq!((answer.number, answer.steps, answer.registers.pc), (number, total, pc_then), "{steps} {budget}");
+fn totals_and_their_ceiling() {
+    for &(code, pc, steps, budget, number, total, pc_then, cycles) in TOTALS {
+        let (answer, _) = resume_from(&assembled(2, code), &LIMITS, &memory(&[]), (at(pc, 0x03FD), steps), budget);
+        let expected = (number, total, pc_then, cycles);
+        assert_eq!((answer.number, answer.steps, answer.registers.pc, answer.cycles), expected, "{code}: {steps} {budget}");
     }
-    let (answer, _) = resume(&short, &LIMITS, &memory(&[]), &saved(at(0, 0x03FF), CEILING), 1);
-    assert_eq!((answer.number, answer.steps), (FINISHED, CEILING));
+}
+
+// The versions.
+
+/// Saved states typed by hand, and the steps that they say.
+const VERSIONS: [(&str, u64); 6] = [
+    ("53 4C 53 00 01 80 00 03 FD 12 34 56 78 9A 28 00 00 00 00", 0),
+    ("53 4C 53 00 01 80 00 03 FD 12 34 56 78 9A 28 01 02 03 04", 16_909_060),
+    ("53 4C 53 00 01 80 00 03 FD 12 34 56 78 9A 28 FF FF FF FF", 4_294_967_295),
+    ("53 4C 53 00 02 80 00 03 FD 12 34 56 78 9A 28 00 00 00 00 01 02 03 04", 16_909_060),
+    ("53 4C 53 00 02 80 00 03 FD 12 34 56 78 9A 28 01 02 03 04 05 06 07 08", 72_623_859_790_382_856),
+    ("53 4C 53 00 02 80 00 03 FD 12 34 56 78 9A 28 FF FF FF FF FF FF FF FF", 18_446_744_073_709_551_615),
+];
+
+#[test]
+fn what_a_saved_state_says() {
+    let (file, memory) = (assembled(2, SHORT), memory(&[]));
+    for (bytes, steps) in VERSIONS {
+        let (answer, _) = resume(&file, &LIMITS, &memory, &hexadecimal(bytes), 0);
+        let registers = Registers { a: 0x12, x: 0x3456, y: 0x789A, cc: 0x28, sp: 0x03FD, pc: 0x8000 };
+        assert_eq!(answer, Answer { number: SPENT, offset: 0, registers, steps, cycles: 0 }, "{bytes}");
+        if steps <= CEILING - 3 {
+            let (answer, _) = resume(&file, &LIMITS, &memory, &hexadecimal(bytes), 9);
+            assert_eq!((answer.number, answer.steps, answer.cycles), (FINISHED, steps + 3, 6), "{bytes}");
+        }
+    }
 }
 
 // Refusals.
@@ -397,23 +507,46 @@ fn the_ceiling_of_the_total() {
 #[test]
 fn length_mark_and_version() {
     let (file, memory) = (assembled(2, "9D 81"), memory(&[]));
-    let good = saved(BEGIN, 7);
     let number = |saved: &[u8]| resume(&file, &LIMITS, &memory, saved, 9).0.number;
-    assert_eq!(number(&good), FINISHED);
-    let longer = [&good[..], &good, &[0; 0x1_0000]].concat();
-    for length in
-        (0..=2 * SAVED_BYTES).chain([0x100 + SAVED_BYTES, 0x1_0000 + SAVED_BYTES]).filter(|&length| length != SAVED_BYTES)
-    {
-        assert_eq!(number(&longer[..length]), NOT_SLS, "{length}");
+    let in_0001 = in_version_0001(BEGIN, 7).expect("room");
+    for good in [&in_0001[..], &saved(BEGIN, 7)] {
+        assert_eq!(number(good), FINISHED);
+        let right = good.len();
+        for after in [good, &[0; 30]] {
+            let longer = [good, after, &[0; 0x1_0000]].concat();
+            for length in (0..=2 * right).chain([0x100 + right, 0x1_0000 + right]).filter(|&length| length != right) {
+                assert_eq!(number(&longer[..length]), NOT_SLS, "{right} {length}");
+            }
+        }
+        for byte in 0..5 {
+            for value in (0..=255).filter(|&value| value != good[byte]) {
+                let mut damaged = good.to_vec();
+                damaged[byte] = value;
+                assert_eq!(number(&damaged), NOT_SLS, "{damaged:02X?}");
+                // 34 comes before 35.
+                damaged[5..9].fill(0x90);
+                assert_eq!(number(&damaged), NOT_SLS, "{damaged:02X?}");
+            }
+        }
     }
-    for byte in 0..5 {
-        for value in (0..=255).filter(|&value| value != good[byte]) {
-            let mut damaged = good;
-            damaged[byte] = value;
-            assert_eq!(number(&damaged), NOT_SLS, "{damaged:02X?}");
-            // 34 comes before 35.
-            damaged[5..9].fill(0x90);
-            assert_eq!(number(&damaged), NOT_SLS, "{damaged:02X?}");
+}
+
+#[test]
+fn each_version_has_its_length() {
+    let (file, memory) = (assembled(2, "9D 81"), memory(&[]));
+    for (bytes, expected) in [
+        ("53 4C 53 00 01 80 00 03 FD 00 00 00 00 00 00 00 00 00 07", FINISHED),
+        ("53 4C 53 00 02 80 00 03 FD 00 00 00 00 00 00 00 00 00 00 00 00 00 07", FINISHED),
+        ("53 4C 53 00 02 80 00 03 FD 00 00 00 00 00 00 00 00 00 07", NOT_SLS),
+        ("53 4C 53 00 01 80 00 03 FD 00 00 00 00 00 00 00 00 00 00 00 00 00 07", NOT_SLS),
+        ("53 4C 53 00 01 80 00 03 FD 00 00 00 00 00 00 00 00 00 07 00 00 00 00", NOT_SLS),
+    ] {
+        assert_eq!(resume(&file, &LIMITS, &memory, &hexadecimal(bytes), 9).0.number, expected, "{bytes}");
+    }
+    for version in ["00 00", "00 03", "01 00", "01 01", "01 02", "02 00", "02 01", "02 02", "80 01", "80 02", "FF FF"] {
+        for steps in ["00 00 00 07", "00 00 00 00 00 00 00 07"] {
+            let bytes = format!("53 4C 53 {version} 80 00 03 FD 00 00 00 00 00 00 {steps}");
+            assert_eq!(resume(&file, &LIMITS, &memory, &hexadecimal(&bytes), 9).0.number, NOT_SLS, "{bytes}");
         }
     }
 }
@@ -421,9 +554,10 @@ fn length_mark_and_version() {
 #[test]
 fn the_order_of_refusals() {
     let [good, not_good] = [saved(BEGIN, 7), saved(at(0x9000, 0x03FD), 7)];
+    let in_0001 = in_version_0001(BEGIN, 7).expect("room");
     let memory = memory(&[]);
     let stack_from = |low| Limits { stack: Area { low, ..LIMITS.stack }, ..LIMITS };
-    for saved in [&good[..], &not_good, b"", b"SLS"] {
+    for saved in [&good[..], &not_good, &in_0001, b"", b"SLS"] {
         let refused = |file: &[u8], limits: &Limits, lent: usize| {
             let (answer, _) = resume(file, limits, &vec![0xEE; lent], saved, 9);
             (answer.number, answer.offset)
@@ -453,7 +587,8 @@ fn the_order_of_refusals() {
         }
     }
     let file = assembled(2, "9D 81");
-    for (saved, number) in [(&good[..], FINISHED), (&not_good, NOT_GOOD), (b"SLS", NOT_SLS), (b"", NOT_SLS)] {
+    for (saved, number) in [(&good[..], FINISHED), (&in_0001, FINISHED), (&not_good, NOT_GOOD), (b"SLS", NOT_SLS), (b"", NOT_SLS)]
+    {
         assert_eq!(resume(&file, &LIMITS, &memory, saved, 9).0.number, number, "{saved:02X?}");
     }
 }

@@ -1,10 +1,6 @@
 -- `resuming::resume_accepted` meets its contract.
 use denote.Ref.{now}
-use Rattle.numbers.specs.Lists.{Bytes}
 use Rattle.acceptance.specs.Passed.{depthIn}
-use Rattle.saved_state.specs.Sls.{stateIn}
-use Rattle.saved_state.proofs.Saving.{saving-fits}
-use Rattle.saved_state.proofs.Trips.{state-fits}
 use Rattle.resuming.specs.Good.{pointAt}
 use Rattle.resuming.specs.Resuming.{resumed}
 use Rattle.resuming.proofs.MarkedCode.{marked-code}
@@ -30,14 +26,11 @@ run-on-requires c κs =
     let r = g .before .before .before in
     let s = r .before .before .before .before .before in
     let bytes = now (s .args .bytes) in
-    let small : Bytes bytes = λ k. r .before .shared-slice-known3 .given k .fits in
     let m = marked-code (s .pre .0) in
     let passed = both-passed bytes (r .saved-check .ensures) (g .is-good .result) (n .before .unless .ensures) (n .first .ensures) (c .before .if1 .left) in
-    let good = rw (passed .1) at (g .is-good .ensures) in (
-      rw (g .before .before .state-in .ensures) (saving-fits (stateIn bytes .registers) (stateIn bytes .steps) (state-fits bytes small) .1),
-      ends-well (now (s .args .image)) (s .args .limits) (depthIn (now (s .args .marks))) (m .needs) (m .code) _
-          (pointAt (g .before .before .state-in .result .registers) (now (s .args .memory)) (good .0)) (s .pre .1) (good .1),
-    )
+    let good = rw (passed .1) at (g .is-good .ensures) in
+    ends-well (now (s .args .image)) (s .args .limits) (depthIn (now (s .args .marks))) (m .needs) (m .code) _
+    (pointAt (g .before .before .state-in .result .registers) (now (s .args .memory)) (good .0)) (s .pre .1) (good .1)
 
 returns-2 : tie.Need-returns-2
 returns-2 c =

@@ -9,7 +9,7 @@ returns : tie.Need-returns
 returns c = saved-refused _ _ (c .before .saving-number .ensures) (c .if1 .taken)
 
 state-bytes-requires : tie.Need-state-bytes-requires
-state-bytes-requires c κs = saving-fits _ _ (sym (c .before .saving-number .ensures) ∙ c .if1 .left)
+state-bytes-requires c κs = saving-fits _ (sym (c .before .saving-number .ensures) ∙ c .if1 .left)
 
 returns-2 : tie.Need-returns-2
 returns-2 c = saved-written _ _ (c .before .before .saving-number .ensures) (c .before .if1 .left) (c .state-bytes .ensures)

@@ -6,8 +6,7 @@ use Rattle.saved_state.proofs.saving_number.Tie as tie
 
 returns : tie.Need-returns
 unfolding savingNumber
-returns c = let c1 = c .before in let c2 = c1 .before in rw (c .first .ensures, c1 .under2 .ensures, c2 .under .ensures)
+returns c = rw (c .under .ensures)
 
 pub saving-number-spec : {M : Type 1} → statement M
-saving-number-spec =
-    tie.close (tie.spec (λ c. search needs) (λ c κs. search needs) (λ c κs. search needs) (λ c κs. search needs) returns)
+saving-number-spec = tie.close (tie.spec (λ c. search needs) (λ c κs. search needs) returns)

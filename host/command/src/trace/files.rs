@@ -34,7 +34,7 @@ impl Files {
             write(path, machine.memory())?;
         }
         if let Some(path) = &self.state {
-            // A trace stops at the largest total, and PC is at a start or 0: such a state is never refused.
+            // PC is at a start or 0, so it is never refused.
             let saved = machine.saved().map_err(|refusal| Trouble::Content(path.clone(), refusal.to_string()))?;
             write(path, saved.as_ref())?;
         }

@@ -5,7 +5,7 @@ use gate_host::{decode, save, step, step_back, Layout, Limits, Record, Refusal, 
 use std::collections::VecDeque;
 
 /// The largest total of steps: a saved state holds no more, and a resumed run is spent there.
-pub const MOST_STEPS: u64 = 4_294_967_295;
+pub const MOST_STEPS: u64 = u64::MAX;
 
 /// The steps made so far, those gone back over taken off.
 #[derive(Clone, Copy, Debug)]

@@ -12,7 +12,7 @@ use std::path::{Path, PathBuf};
 /// The most steps of an example's trace: some do not end soon.
 const MOST: usize = 100;
 /// The most steps that a total holds.
-const CEILING: u64 = 4_294_967_295;
+const CEILING: u64 = 18_446_744_073_709_551_615;
 const IMAGES: u64 = 200;
 
 /// Where a trace leaves its files, and what they hold.
@@ -238,12 +238,37 @@ fn damaged_states_are_refused_as_the_library_does() {
         }
     }
     // A, X, Y, CC and steps may be any. PC, SP and what is before them may not, but for a PC of 8000 where 8001 was, at one depth.
-    assert_eq!(went_on, [6].into_iter().chain((9..19).flat_map(|at| [at, at])).collect::<Vec<_>>());
-    for length in [0, 1, 18] {
+    assert_eq!(went_on, [6].into_iter().chain((9..23).flat_map(|at| [at, at])).collect::<Vec<_>>());
+    for length in [0, 1, 19, 22] {
         assert!(!as_the_library(&example, &Files::of("damaged", &state[..length], &memory)), "{length} bytes");
     }
-    assert!(!as_the_library(&example, &Files::of("damaged", &[&state[..], b"\n"].concat(), &memory)), "20 bytes");
+    assert!(!as_the_library(&example, &Files::of("damaged", &[&state[..], b"\n"].concat(), &memory)), "24 bytes");
     assert!(!as_the_library(&example, &Files::of("damaged", &memory, &memory)), "the memory in place of the state");
+}
+
+/// The state of the same place and total as it was written before 0.5.0, in version 0001.
+fn old(state: &[u8]) -> Vec<u8> {
+    [b"SLS\x00\x01", &state[5..15], &state[19..]].concat()
+}
+
+/// An old state is traced as a new one is, and what is saved after it is the same.
+#[test]
+fn an_old_state_goes_on_and_is_saved_anew() {
+    let (example, files) = paused("new");
+    let (state, memory) = files.held();
+    let old_files = Files::of("old", &old(&state), &memory);
+    let (from_new, from_old) = (Files::named("from-new"), Files::named("from-old"));
+    let print = |more: &[&str], begin: &Files, end: &Files| {
+        let out = good(&example.limits, &[more, &begin.resuming(), &end.saving()], &example.image);
+        out.replace(text(&end.state), "STATE").replace(text(&end.memory), "MEMORY")
+    };
+    for more in [&["--steps=5"][..], &["--json", "--steps=5"], &["--back=3"]] {
+        assert_eq!(print(more, &old_files, &from_old), print(more, &files, &from_new), "{more:?}");
+        assert!(from_old.held() == from_new.held(), "{more:?}");
+    }
+    let stopped = print(&["--steps=0"], &old_files, &from_old);
+    assert!(stopped.contains("stopped before 8001, as --steps says: steps 11 in all; since resumed steps 0"), "{stopped}");
+    assert!(from_old.held() == (state, memory), "version 0002");
 }
 
 #[test]
@@ -275,13 +300,14 @@ fn at_total(name: &str, steps: u64, routine: &[u8], more: &[&str]) -> Answer {
 fn a_trace_stops_at_the_largest_total() {
     let jump_to_itself = [0x20, 0xFE];
     let end = |steps, more: &[&str]| at_total("total", steps, &jump_to_itself, more).out.lines().last().map(str::to_string);
-    let most = "stopped before 8000, since a total of 4294967295 steps is the most: steps 4294967295 in all; since resumed";
+    let most =
+        format!("stopped before 8000, since a total of {CEILING} steps is the most: steps {CEILING} in all; since resumed");
     assert_eq!(end(CEILING - 2, &[]), Some(format!("{most} steps 2, cycles 4")));
     assert_eq!(end(CEILING - 2, &["--steps", "2"]), Some(format!("{most} steps 2, cycles 4")));
     assert_eq!(end(CEILING, &["--steps=1"]), Some(format!("{most} steps 0, cycles 0")));
-    let asked = "stopped before 8000, as --steps says: steps 4294967294 in all; since resumed steps 1, cycles 2";
+    let asked = "stopped before 8000, as --steps says: steps 18446744073709551614 in all; since resumed steps 1, cycles 2";
     assert_eq!(end(CEILING - 2, &["--steps", "1"]), Some(asked.into()));
-    let object = "{\"kind\":\"end\",\"end\":\"total\",\"address\":32768,\"steps\":4294967295,\"sum\":4}";
+    let object = "{\"kind\":\"end\",\"end\":\"total\",\"address\":32768,\"steps\":18446744073709551615,\"sum\":4}";
     assert_eq!(end(CEILING - 2, &["--json"]), Some(object.into()));
     let default =
         "stopped before 8000, since --steps 10000 is the default: steps 10007 in all; since resumed steps 10000, cycles 20000";
@@ -291,10 +317,17 @@ fn a_trace_stops_at_the_largest_total() {
 #[test]
 fn what_finishes_with_the_largest_total_has_finished() {
     let end = |steps| at_total("last", steps, &[0x9D, 0x81], &[]).out.lines().last().map(str::to_string);
-    let finished = "finished: steps 4294967295 in all; since resumed steps 2, cycles 5";
+    let finished = "finished: steps 18446744073709551615 in all; since resumed steps 2, cycles 5";
     assert_eq!(end(CEILING - 2), Some(finished.into()));
-    let stopped = "stopped before 8001, since a total of 4294967295 steps is the most: steps 4294967295 in all; since resumed steps 1, cycles 1";
-    assert_eq!(end(CEILING - 1), Some(stopped.into()));
+    let stopped = format!("stopped before 8001, since a total of {CEILING} steps is the most: steps {CEILING} in all;");
+    assert_eq!(end(CEILING - 1), Some(format!("{stopped} since resumed steps 1, cycles 1")));
+}
+
+/// The most of 32 bits, which was the largest total once, stops nothing.
+#[test]
+fn a_trace_goes_on_past_32_bits() {
+    let end = at_total("past", 4_294_967_294, &[0x9D, 0x9D, 0x81], &[]).out;
+    assert_eq!(end.lines().last(), Some("finished: steps 4294967297 in all; since resumed steps 3, cycles 6"));
 }
 
 #[test]
@@ -306,7 +339,7 @@ fn what_cannot_be_paused_or_resumed_is_said() {
         (&["--save", state, "--memory-out", state], "--save and --memory-out are two files, and not both "),
         (&["--resume", state], "--resume wants --memory too"),
         (&["--resume", state, "--memory", memory, "--registers", "A=1"], "--registers goes with a start"),
-        (&["--resume", state, "--memory", state], "said.sls: 19 bytes, and a memory is 32768"),
+        (&["--resume", state, "--memory", state], "said.sls: 23 bytes, and a memory is 32768"),
         (&["--resume", "no-such-file", "--memory", memory], "no-such-file: "),
         (&["--resume", state, "--memory", "no-such-file"], "no-such-file: "),
         (&["--resume", state, "--resume", state, "--memory", memory], "--resume is given twice"),

@@ -12,9 +12,13 @@ pub const BEGIN: Registers = Registers { a: 0, x: 0, y: 0, cc: 0, sp: 0x03FD, pc
 
 /// The image of routines in hexadecimal, with | between two.
 pub fn assembled(version: u16, routines: &str) -> Vec<u8> {
-    let byte = |digits| u8::from_str_radix(digits, 16).expect("hexadecimal");
-    let routines: Vec<Vec<u8>> = routines.split('|').map(|code| code.split_whitespace().map(byte).collect()).collect();
+    let routines: Vec<Vec<u8>> = routines.split('|').map(hexadecimal).collect();
     slu::image_of(version, 0x8000, &routines)
+}
+
+/// Bytes in hexadecimal.
+pub fn hexadecimal(bytes: &str) -> Vec<u8> {
+    bytes.split_whitespace().map(|digits| u8::from_str_radix(digits, 16).expect("hexadecimal")).collect()
 }
 
 /// What came of a call: its answer, and registers and memory after it.

@@ -5,10 +5,12 @@ use crate::cycles::{self, Timing};
 use crate::limits::Second;
 use crate::memories::{Memories, BLANK};
 use crate::met::Met;
+use crate::not_sls::NotSls;
 use crate::program::{Case, Known};
 use crate::records::Records;
 use crate::resumes::Resumes;
 use crate::shape::Shape;
+use crate::totals::Totals;
 use crate::turns::Turns;
 use crate::versions::Versions;
 use gate_host::cells::{self, LayoutCells, RecordCells, RegisterCells, ReportCells};
@@ -57,6 +59,9 @@ pub struct Tally {
     pub records: Met<Records>,
     pub turns: Met<Turns>,
     pub resumes: Met<Resumes>,
+    pub totals: Met<Totals>,
+    /// Made from saved states of version 0001, and of 0002.
+    pub not_sls: [Met<NotSls>; 2],
     /// Trap 22: PC not in the code, bytes that run out, a call whose next address is 10000.
     pub trap_22: [u64; 3],
 }

@@ -1,6 +1,7 @@
 //! The frames on the stack of an accepted image: what states are good by construction, and what makes one that is not.
 
 use crate::generator::Generator;
+use crate::met::that_hold;
 use crate::program::{Case, Flaws, Jumps, Program, Routine};
 use crate::random::Random;
 use crate::resumes::Resumes;
@@ -126,7 +127,7 @@ impl State {
     /// What a state that is good has of it.
     pub fn kinds(&self) -> impl Iterator<Item = Resumes> + '_ {
         let (own, levels) = (self.start.depth > 0, self.calls.len());
-        let facts = [
+        that_hold([
             (Resumes::InMain, levels == 0 && !own),
             (Resumes::InMainPushed, levels == 0 && own),
             (Resumes::InCallee, levels > 0),
@@ -136,8 +137,7 @@ impl State {
             (Resumes::TenFrames, levels >= 9),
             (Resumes::ByCallr, self.calls.iter().any(|call| call.relative)),
             (Resumes::ByBoth, self.calls.iter().any(|call| call.relative) && self.calls.iter().any(|call| !call.relative)),
-        ];
-        facts.into_iter().filter(|&(_, met)| met).map(|(what, _)| what)
+        ])
     }
 }
 
@@ -151,10 +151,9 @@ pub struct Sound<'a> {
     pub marks: usize,
 }
 
-/// A saved state, and bytes of memory, that are refused with this number.
+/// A saved state that is not good with these bytes of memory.
 pub struct Damaged {
     pub met: Resumes,
-    pub number: u8,
     pub saved: Vec<u8>,
     pub bytes: Vec<(u16, [u8; 2])>,
 }
@@ -169,7 +168,7 @@ impl Sound<'_> {
     fn with(&self, met: Resumes, change: impl FnOnce(&mut Vec<u8>)) -> Damaged {
         let mut saved = self.saved.to_vec();
         change(&mut saved);
-        Damaged { met, number: 35, saved, bytes: Vec::new() }
+        Damaged { met, saved, bytes: Vec::new() }
     }
 
     fn with_pc(&self, met: Resumes, pc: u16) -> Damaged {
@@ -184,37 +183,6 @@ impl Sound<'_> {
     fn with_return(&self, met: Resumes, frame: usize, address: u16) -> Damaged {
         let (above, _) = self.state.returns()[frame];
         Damaged { bytes: vec![(self.sp + above, address.to_be_bytes())], ..self.with(met, |_| ()) }
-    }
-
-    /// A wrong length, mark or version: 34.
-    fn not_sls(&self, random: &mut Random) -> Damaged {
-        let other = |random: &mut Random, byte: u8| byte ^ random.between(1, 255) as u8;
-        let damaged = match random.below(10) {
-            0 => self.with(Resumes::LengthNone, |saved| saved.clear()),
-            1 => self.with(Resumes::LengthShort, |saved| saved.truncate(random.pick(&[1, 3, 5, 17, 18, 18]))),
-            2 => self.with(Resumes::LengthLong, |saved| saved.resize(random.pick(&[20, 20, 21, 23, 38]), random.byte())),
-            3 => self.with(Resumes::LengthIn8Bits, |saved| saved.resize(19 + random.pick(&[0x100, 0x300]), random.byte())),
-            4 => self.with(Resumes::LengthIn16Bits, |saved| saved.resize(19 + 0x1_0000, random.byte())),
-            5 => self.with(Resumes::Mark, |saved| {
-                let at = random.below(3);
-                saved[at] = other(random, saved[at]);
-            }),
-            6 => self.with(Resumes::MarkOfImage, |saved| saved[2] = b'U'),
-            7 => self.with(Resumes::VersionHigh, |saved| saved[3] = other(random, 0)),
-            8 => self.with(Resumes::Version0002, |saved| saved[4] = 2),
-            _ => self.with(Resumes::VersionOther, |saved| saved[4] = random.pick(&[0, 3, 0x81, 0xFF])),
-        };
-        Damaged { number: 34, ..damaged }
-    }
-
-    /// Not SLS, and with PC 0, which is not good here: 34 comes first. Where it has no PC it is just not SLS.
-    fn not_sls_nor_good(&self, random: &mut Random) -> Damaged {
-        let mut damaged = self.not_sls(random);
-        if let Some(pc) = damaged.saved.get_mut(5..7) {
-            pc.fill(0);
-            damaged.met = Resumes::NotSlsFirst;
-        }
-        damaged
     }
 
     /// PC is no start, or is a start of a routine to which no calls lead from main.
@@ -327,15 +295,13 @@ impl Sound<'_> {
         }
     }
 
-    /// Something that is refused, if what came up can be.
+    /// Something that is refused with 35, if what came up can be.
     pub fn damaged(&self, random: &mut Random) -> Option<Damaged> {
-        match random.below(16) {
-            0..=4 => Some(self.not_sls(random)),
-            5 => Some(self.not_sls_nor_good(random)),
-            6..=8 => self.wrong_pc(random),
-            9 => Some(self.wrong_sp(random)),
-            10 => self.shifted(random),
-            11 => Some(self.wrong_main(random)),
+        match random.below(10) {
+            0..=2 => self.wrong_pc(random),
+            3 => Some(self.wrong_sp(random)),
+            4 => self.shifted(random),
+            5 => Some(self.wrong_main(random)),
             _ => self.wrong_return(random),
         }
     }

@@ -1,7 +1,7 @@
 //! Limits: where the three areas lie, addresses on which something turns, and what W-205 decides on.
 
 use crate::generator::Generator;
-use crate::met::Meet;
+use crate::met::{that_hold, Meet};
 use crate::program::Case;
 use gate_host::{Area, Limits};
 use gate_twin::Instruction;
@@ -68,7 +68,7 @@ impl Second {
         let just_none = second.low.checked_sub(1) == Some(second.high);
         let ends = [grant.low, grant.high, stack.low, stack.high];
         let at_an_end = ends.contains(&second.low) || ends.contains(&second.high);
-        let facts = [
+        that_hold([
             (Second::Present, some),
             (Second::Absent, !some),
             (Second::AboveGrant, some && follows(second, grant)),
@@ -81,8 +81,7 @@ impl Second {
             (Second::None00050004, second == NONE_LOW),
             (Second::NoneAbove7FFF, just_none && second.high > 0x7FFF),
             (Second::NoneAtAnEnd, just_none && at_an_end),
-        ];
-        facts.into_iter().filter(|&(_, met)| met).map(|(what, _)| what)
+        ])
     }
 
     /// What a check that is refused so has of it; `refused` is the instruction that a refusal points at.

@@ -4,8 +4,8 @@
 //!
 //! Cases are made until at least N checks were compared, and N single steps that were made. A difference prints the seed, the
 //! case and both answers, and `--seed S --case K` makes that case again. The exit status is 1 where something differs, or where
-//! some answer, or something that W-201, W-202, W-205, W-206, W-208, W-210 or W-212 decides on, was never met, a second grant in less
-//! than half of the cases, or a version in less than a third.
+//! some answer, or something that W-201, W-202, W-205, W-206, W-208, W-209, W-210 or W-212 decides on, was never met, a second grant
+//! in less than half of the cases, or a version in less than a third.
 
 mod back;
 mod compare;
@@ -18,6 +18,7 @@ mod limits;
 mod memories;
 mod met;
 mod nested;
+mod not_sls;
 mod pair;
 mod pauses;
 mod program;
@@ -26,6 +27,7 @@ mod resumes;
 mod saved;
 mod shape;
 mod stretch;
+mod totals;
 mod trial;
 mod turns;
 mod versions;
@@ -153,6 +155,11 @@ fn print(options: &Options, cases: u64, templates: &[Template], tally: &Tally) -
     missing |= tally.records.print();
     missing |= tally.turns.print();
     missing |= tally.resumes.print();
+    missing |= tally.totals.print();
+    for (version, met) in ["0001", "0002"].into_iter().zip(&tally.not_sls) {
+        println!("refused with 34, made from saved states of version {version}, for");
+        missing |= met.print();
+    }
     let [pc, bytes, call] = tally.trap_22;
     println!("trap 22 of steps: PC {pc}, bytes {bytes}, call before 10000 {call}");
     println!("steps made in runs: {}", tally.run_steps);

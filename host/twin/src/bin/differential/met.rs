@@ -41,3 +41,8 @@ impl<T: Meet> Met<T> {
         self.times.contains(&0)
     }
 }
+
+/// Those things whose fact holds.
+pub fn that_hold<T, const N: usize>(facts: [(T, bool); N]) -> impl Iterator<Item = T> {
+    facts.into_iter().filter(|(_, holds)| *holds).map(|(what, _)| what)
+}

@@ -5,9 +5,12 @@ use crate::compare::{self, as_expected, Compared, Ran, Tally};
 use crate::frames::{Calls, Damaged, Sound, State};
 use crate::generator::Generator;
 use crate::memories::Memories;
+use crate::met::that_hold;
+use crate::not_sls::NotSls;
 use crate::program::Case;
-use crate::resumes::{Resumes, CEILING};
+use crate::resumes::Resumes;
 use crate::saved::{self, Given, Resumed, SavedCells};
+use crate::totals::{Totals, BIT_63, CEILING, MOST_IN_0001};
 use crate::turns;
 use gate_host::cells::{RegisterCells, FINISHED, OK, SPENT};
 use gate_host::{Limits, Refused, MEMORY_BYTES};
@@ -66,7 +69,7 @@ impl Pauses<'_, '_> {
 
     // Saving, and what comes before 34.
 
-    /// Saves any registers and steps, often with a PC or steps that have just room, or just none.
+    /// Saves any registers and steps, often with a PC that has just room, or just none, and with steps at a border.
     fn saves(&mut self, mut given: RegisterCells) -> Compared<()> {
         for _ in 0..3 {
             let random = &mut *self.make.random;
@@ -74,8 +77,9 @@ impl Pauses<'_, '_> {
                 given[5] = random.pick(&[0, 0x8000, 0xFFFF, 0x1_0000, 0x1_8000, 0xFF_0000, 0x8000_0000, u32::MAX]);
             }
             let small = u64::from(random.word());
-            let steps = [small, CEILING, CEILING + 1, CEILING + 1 + small, 1 << 63 | small, u64::MAX, random.next()];
-            let steps = if random.one_in(2) { small } else { random.pick(&steps) };
+            let border = random.pick(&[MOST_IN_0001, MOST_IN_0001 + 1, BIT_63 - 1, BIT_63, CEILING]);
+            let any = random.next();
+            let steps = random.pick(&[small, border, border, border ^ small, any]);
             saved::save(given, steps, self.tally)?;
         }
         Ok(())
@@ -93,12 +97,12 @@ impl Pauses<'_, '_> {
     }
 
     fn wrong_memory(&mut self, given: RegisterCells, lent: usize) -> Compared<()> {
-        let (_, saved) = self.any_saved(given)?;
+        let (wrong, saved) = self.any_saved(given)?;
         let resumed = self.resume(&saved, 9, lent)?;
         as_expected("resume with another size of memory: number", &17, &resumed.number)?;
         let Case { image, limits, .. } = self.case;
         let refused = twin::check(image, limits, &mut self.marks.clone()).is_err();
-        self.tally.resumes.note((refused || saved.len() < 19).then_some(Resumes::MemoryFirst));
+        self.tally.resumes.note((refused || wrong).then_some(Resumes::MemoryFirst));
         Ok(())
     }
 
@@ -164,13 +168,16 @@ impl Pauses<'_, '_> {
         let number = if finished { FINISHED } else { SPENT };
         let stands = Resumed { number, offset: 0, registers, steps: steps.into(), cycles: 0 };
         as_expected("resume with no budget", &stands, &self.resume(&saved, 0, MEMORY_BYTES)?)?;
+        let Pausing { now, budget, whole, after, .. } = pausing;
+        let (left, cycles) = (budget - steps, whole.cycles - now.cycles);
+        let rest = Resumed { number: whole.number, offset: 0, registers: whole.registers, steps: whole.steps.into(), cycles };
         if self.make.random.one_in(3) {
-            self.goes_on(pausing, saved, &[pausing.budget - steps])?;
+            self.goes_on(saved, &[left], &rest, after)?;
             self.tally.resumes.note([Resumes::AtOnce]);
         }
         if self.make.random.one_in(3) {
-            let pieces = turns::pieces(pausing.budget - steps, self.make.random);
-            self.goes_on(pausing, saved, &pieces)?;
+            let pieces = turns::pieces(left, self.make.random);
+            self.goes_on(saved, &pieces, &rest, after)?;
             self.tally.resumes.note((pieces.len() >= 2).then_some(Resumes::InPieces));
             self.tally.resumes.note((pieces.len() >= 10).then_some(Resumes::InManyPieces));
         }
@@ -183,25 +190,28 @@ impl Pauses<'_, '_> {
             (Resumes::PausedThreeFrames, state.is_of_three_frames()),
             (Resumes::PausedCallerPushed, state.has_a_caller_pushed()),
         ];
-        self.tally.resumes.note(facts.into_iter().filter(|&(_, met)| met).map(|(what, _)| what));
+        self.tally.resumes.note(that_hold(facts));
         self.tally.resumes.note(state.kinds());
     }
 
-    /// Resumed runs one after another, each from what the one before left, come to what the longer run came to.
-    fn goes_on(&mut self, pausing: &Pausing, mut saved: SavedCells, pieces: &[u32]) -> Compared<()> {
+    /// Resumed runs one after another, each from what the one before left, in version 0002 as it is saved or in 0001, come to what
+    /// one run does.
+    fn goes_on(&mut self, mut saved: SavedCells, pieces: &[u32], whole: &Resumed, whole_after: &Memories) -> Compared<()> {
         let before = self.memories.clone();
-        let (mut cycles, mut last) = (pausing.now.cycles, None);
+        let (mut cycles, mut last, mut in_0001) = (0, None, Vec::new());
         for &piece in pieces {
-            let resumed = self.resume(&saved, piece, MEMORY_BYTES)?;
+            let older = saved::in_version_0001(&saved).filter(|_| self.make.random.one_in(2));
+            in_0001.push(older.is_some());
+            let resumed = self.resume(older.as_deref().unwrap_or(&saved), piece, MEMORY_BYTES)?;
             cycles += resumed.cycles;
             saved = self.saved(resumed.registers, resumed.steps)?;
             last = Some(resumed);
         }
         let after = std::mem::replace(self.memories, before);
         let Some(last) = last else { return Ok(()) };
-        let sum = Ran { number: last.number, steps: last.steps as u32, cycles, registers: last.registers };
-        as_expected("a run that was paused", &pausing.whole, &sum)?;
-        as_expected("a run that was paused: the same memory", &true, &after.is_same_as(&pausing.after))
+        self.tally.totals.note(Totals::of_versions(&in_0001));
+        as_expected("a run that was paused", whole, &Resumed { cycles, ..last })?;
+        as_expected("a run that was paused: the same memory", &true, &after.is_same_as(whole_after))
     }
 
     // States by hand.
@@ -211,8 +221,7 @@ impl Pauses<'_, '_> {
         let (state, stack) = (self.make.good_state(calls), self.case.limits.stack);
         let sp = stack.high - state.size();
         let registers = [given[0], given[1], given[2], given[3], sp.into(), state.start.address.into()];
-        let budget = self.budget();
-        let steps = self.steps(budget);
+        let (steps, budget) = self.total();
         let saved = self.saved(registers, steps)?;
         // A mark past the code tells nothing, even one that would fit there.
         self.marks[calls.code_bytes()..].fill(state.start.depth + 1);
@@ -221,7 +230,8 @@ impl Pauses<'_, '_> {
         self.tally.resumes.note(sound.state.kinds());
         self.tally.resumes.note((sp + 1 == stack.low).then_some(Resumes::StackFull));
         self.tally.resumes.note((stack.high == 0x7FFF).then_some(Resumes::To7FFF));
-        for _ in 0..8 {
+        self.not_sls(registers)?;
+        for _ in 0..5 {
             if let Some(damaged) = sound.damaged(self.make.random) {
                 self.is_refused(&damaged)?;
             }
@@ -230,24 +240,50 @@ impl Pauses<'_, '_> {
             self.elsewhere(&sound, registers)?;
         }
         self.other_limits(&saved)?;
-        self.runs_from(calls, &saved, registers, (steps, budget), need)
+        self.runs_from(&sound, registers, (steps, budget), need)
     }
 
-    /// The steps of a saved state: often just so many that the budget comes to the ceiling, or beside it.
-    fn steps(&mut self, budget: u32) -> u64 {
+    /// The steps of a saved state, and a budget that often comes just to a border from there, or beside it; or the greatest
+    /// budget, which the ceiling cuts short.
+    fn total(&mut self) -> (u64, u32) {
+        let budget = self.budget();
         let random = &mut *self.make.random;
-        let border = CEILING - u64::from(budget);
-        match random.below(8) {
+        let (any, of_32_bits) = (random.next(), random.next() >> 32);
+        let border = random.pick(&[CEILING, CEILING, CEILING, MOST_IN_0001, MOST_IN_0001, BIT_63, any | MOST_IN_0001]);
+        let steps = match random.below(8) {
             0..=1 => random.between(0, 1_000) as u64,
-            2 => u64::from(random.next() as u32),
-            3 => CEILING,
-            4..=5 => CEILING - random.below(10) as u64,
-            _ => (border + random.below(3) as u64 - 1).min(CEILING),
-        }
+            2 => random.pick(&[any, of_32_bits]),
+            3 => border,
+            4..=5 => border - random.below(10) as u64,
+            _ => (border - 1 - u64::from(budget)).saturating_add(random.below(3) as u64),
+        };
+        let near = CEILING - steps <= 1_000;
+        (steps, if near && random.one_in(4) { u32::MAX } else { budget })
     }
 
     fn put(&mut self, bytes: &[(u16, [u8; 2])]) {
         bytes.iter().for_each(|&(address, bytes)| self.memories.put(address, bytes));
+    }
+
+    /// What is made wrong from a saved state of either version is refused with 34, also where PC 0 would be with 35.
+    fn not_sls(&mut self, registers: RegisterCells) -> Compared<()> {
+        let steps = self.make.random.next() >> 32;
+        let in_0002 = self.saved(registers, steps)?;
+        let in_0001 = saved::in_version_0001(&in_0002).ok_or("steps of 32 bits have no room in version 0001")?;
+        for (version, right) in [&in_0001[..], &in_0002].into_iter().enumerate() {
+            let fault = NotSls::any(self.make.random);
+            for mut wrong in fault.made_from(right, self.make.random) {
+                if let Some(pc) = wrong.get_mut(5..7).filter(|_| self.make.random.one_in(4)) {
+                    pc.fill(0);
+                    self.tally.resumes.note([Resumes::NotSlsFirst]);
+                }
+                let budget = self.budget();
+                let resumed = self.resume(&wrong, budget, MEMORY_BYTES)?;
+                as_expected("resume of what is no saved state: number", &34, &resumed.number)?;
+            }
+            self.tally.not_sls[version].note([fault]);
+        }
+        Ok(())
     }
 
     /// Refused, and with its own bytes put back.
@@ -256,7 +292,7 @@ impl Pauses<'_, '_> {
         self.put(&damaged.bytes);
         let budget = self.budget();
         let resumed = self.resume(&damaged.saved, budget, MEMORY_BYTES)?;
-        as_expected("resume of what is made not to be: number", &damaged.number, &resumed.number)?;
+        as_expected("resume of what is made not to be good: number", &35, &resumed.number)?;
         self.tally.resumes.note([damaged.met]);
         before.iter().rev().for_each(|&(address, bytes)| self.memories.put(address, bytes));
         Ok(())
@@ -291,45 +327,49 @@ impl Pauses<'_, '_> {
         Ok(())
     }
 
-    /// A good state goes on as a run from its registers, never traps, and changes no byte outside the grants and the need.
-    fn runs_from(
-        &mut self,
-        calls: &Calls,
-        saved: &[u8],
-        registers: RegisterCells,
-        (steps, budget): (u64, u32),
-        need: u16,
-    ) -> Compared<()> {
-        let before = self.memories.clone();
+    /// A good state goes on as a run from its registers, at once and in pieces, never traps, and changes no byte outside the grants
+    /// and the need.
+    fn runs_from(&mut self, sound: &Sound, registers: RegisterCells, (steps, budget): (u64, u32), need: u16) -> Compared<()> {
+        let (before, kept) = (self.memories.clone(), self.memories.kept());
         let left = (CEILING - steps).min(budget.into()) as u32;
         let run = self.run_on(&Ran { number: SPENT, steps: 0, cycles: 0, registers }, left)?;
         let after = std::mem::replace(self.memories, before);
-        let before = self.memories.kept();
-        let resumed = self.resume(saved, budget, MEMORY_BYTES)?;
         let total = steps + u64::from(run.steps);
         let expected = Resumed { number: run.number, offset: 0, registers: run.registers, steps: total, cycles: run.cycles };
+        if self.make.random.one_in(3) {
+            let pieces = turns::pieces(budget, self.make.random);
+            self.goes_on(sound.saved, &pieces, &expected, &after)?;
+            let met = (pieces.len() >= 2).then(|| Totals::of_pieces(steps, &expected));
+            self.tally.totals.note(met.into_iter().flatten());
+        }
+        let resumed = self.resume(&sound.saved, budget, MEMORY_BYTES)?;
         as_expected("resume of a good state, by a run from there", &expected, &resumed)?;
         as_expected("resume of a good state: the same memory", &true, &self.memories.is_same_as(&after))?;
-        outside_unchanged(&before, &self.memories.library, &self.case.limits, need)?;
-        let kind = match resumed.number {
-            FINISHED => Resumes::ByHandFinished,
-            SPENT => Resumes::ByHandSpent,
-            number => return Err(format!("resume of a good state: {number}")),
-        };
-        if resumed.number == SPENT {
-            let (pc, sp) = (resumed.registers[5] as u16, resumed.registers[4] as u16);
-            let state = calls.state(pc, sp, &self.memories.library, self.case.limits.stack);
-            as_expected("resume of a good state: it is good then too", &true, &state.is_some())?;
-        }
+        outside_unchanged(&kept, &self.memories.library, &self.case.limits, need)?;
+        let kind = self.ends_well(sound, &resumed)?;
         self.tally.resumes.note((run.steps > 0).then_some(kind).into_iter().chain([Resumes::ByHand]));
         Ok(())
+    }
+
+    /// A good state has finished, or is spent where it is good too.
+    fn ends_well(&self, sound: &Sound, resumed: &Resumed) -> Compared<Resumes> {
+        match resumed.number {
+            FINISHED => Ok(Resumes::ByHandFinished),
+            SPENT => {
+                let (pc, sp) = (resumed.registers[5] as u16, resumed.registers[4] as u16);
+                let state = sound.calls.state(pc, sp, &self.memories.library, sound.stack);
+                as_expected("resume of a good state: it is good then too", &true, &state.is_some())?;
+                Ok(Resumes::ByHandSpent)
+            }
+            number => Err(format!("resume of a good state: {number}")),
+        }
     }
 
     /// PC 0 with SP at stack high is finished, whatever main's bytes are.
     fn returned(&mut self, given: RegisterCells) -> Compared<()> {
         let high = self.case.limits.stack.high;
         let registers = [given[0], given[1], given[2], given[3], high.into(), 0];
-        let steps = self.make.random.pick(&[0, 1, CEILING - 1, CEILING]);
+        let steps = self.make.random.pick(&[0, 1, MOST_IN_0001, MOST_IN_0001 + 1, CEILING - 1, CEILING]);
         let (saved, budget) = (self.saved(registers, steps)?, self.budget());
         let mains = self.make.random.word().to_be_bytes();
         self.memories.put(high - 1, mains);

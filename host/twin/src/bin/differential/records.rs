@@ -3,7 +3,7 @@
 use crate::compare::Stepped;
 use crate::generator::Generator;
 use crate::memories::Memories;
-use crate::met::Meet;
+use crate::met::{that_hold, Meet};
 use gate_host::cells::{RecordCells, FINISHED, OK};
 use gate_host::{Record, MEMORY_BYTES};
 
@@ -105,7 +105,7 @@ impl Records {
         let two = number == OK && count == 2;
         let low = |address: u32| address > 0xFFFF && address as u16 <= 0x7FFF;
         let wide = |number: usize| counted(number as u32) && cells.bytes[number][1] > 0xFF;
-        let facts = [
+        that_hold([
             (Records::WroteNone, number == OK && count == 0),
             (Records::WroteOne, number == OK && count == 1),
             (Records::WroteTwo, two),
@@ -122,8 +122,7 @@ impl Records {
             (Records::FirstAddress, number == 26 && matches!(count, 1 | 2) && above),
             (Records::SecondAddress, number == 26 && count == 2 && !above && second_above),
             (Records::AddressAbove16Bits, number == 26 && count == 1 && low(first.address)),
-        ];
-        facts.into_iter().filter(|&(_, met)| met).map(|(what, _)| what)
+        ])
     }
 }
 

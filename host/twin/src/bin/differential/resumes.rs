@@ -1,24 +1,17 @@
 //! Saved states: what W-208 decides on.
 
-use crate::met::Meet;
-use crate::saved::Resumed;
-use gate_host::cells::{RegisterCells, FINISHED, OK, SPENT};
+use crate::met::{that_hold, Meet};
+use gate_host::cells::{RegisterCells, OK};
 use gate_host::Registers;
 
-/// The most steps that a saved state holds.
-pub const CEILING: u64 = 4_294_967_295;
-
-/// What is to be met of saved states: what is saved and what is not, where a good one stands, how it goes on, why one is
-/// refused, and the ceiling.
+/// What is to be met of saved states: what is saved and what is not, where a good one stands, how it goes on, and why one is
+/// refused.
 #[derive(Clone, Copy)]
 pub enum Resumes {
     SavedAtFfff,
-    SavedMost,
     SavedWide,
     UnsavedPc,
     UnsavedPcSmall,
-    UnsavedSteps,
-    UnsavedStepsSmall,
     Paused,
     PausedThreeFrames,
     PausedCallerPushed,
@@ -41,16 +34,6 @@ pub enum Resumes {
     TenFrames,
     ByCallr,
     ByBoth,
-    LengthNone,
-    LengthShort,
-    LengthLong,
-    LengthIn8Bits,
-    LengthIn16Bits,
-    Mark,
-    MarkOfImage,
-    VersionHigh,
-    Version0002,
-    VersionOther,
     NotSlsFirst,
     Pc0,
     Pc0Above,
@@ -76,23 +59,14 @@ pub enum Resumes {
     MemoryFirst,
     CheckNotSls,
     CheckSls,
-    CeilingByBudget,
-    CeilingBeforeBudget,
-    CeilingAtOnce,
-    BelowCeiling,
-    FinishedAtCeiling,
-    FinishedBefore,
 }
 
 impl Meet for Resumes {
     const ALL: &'static [(Resumes, &'static str)] = &[
         (Resumes::SavedAtFfff, "saved with PC FFFF"),
-        (Resumes::SavedMost, "saved with 4,294,967,295 steps"),
         (Resumes::SavedWide, "saved with a register above its width"),
-        (Resumes::UnsavedPc, "not saved for PC above FFFF alone"),
+        (Resumes::UnsavedPc, "not saved for PC above FFFF"),
         (Resumes::UnsavedPcSmall, "not saved for a PC of which 16 bits are 0"),
-        (Resumes::UnsavedSteps, "not saved for steps above 4,294,967,295 alone"),
-        (Resumes::UnsavedStepsSmall, "not saved for steps of which 32 bits are 65,535 at most"),
         (Resumes::Paused, "runs from a start paused before they finish"),
         (Resumes::PausedThreeFrames, "runs from a start paused in three frames and more"),
         (Resumes::PausedCallerPushed, "runs from a start paused with bytes that a caller pushed"),
@@ -115,16 +89,6 @@ impl Meet for Resumes {
         (Resumes::TenFrames, "good states of ten frames and more"),
         (Resumes::ByCallr, "good states with a frame of CALLR"),
         (Resumes::ByBoth, "good states with frames of CALL and of CALLR"),
-        (Resumes::LengthNone, "refused with 34 for no byte"),
-        (Resumes::LengthShort, "refused with 34 for too few bytes"),
-        (Resumes::LengthLong, "refused with 34 for too many bytes"),
-        (Resumes::LengthIn8Bits, "refused with 34 for a length that is 19 in 8 bits"),
-        (Resumes::LengthIn16Bits, "refused with 34 for a length that is 19 in 16 bits"),
-        (Resumes::Mark, "refused with 34 for the mark"),
-        (Resumes::MarkOfImage, "refused with 34 for the mark of an image"),
-        (Resumes::VersionHigh, "refused with 34 for the version's high byte"),
-        (Resumes::Version0002, "refused with 34 for version 0002"),
-        (Resumes::VersionOther, "refused with 34 for another version"),
         (Resumes::NotSlsFirst, "refused with 34 that have a reason for 35"),
         (Resumes::Pc0, "refused with 35 for PC 0 with SP below stack high"),
         (Resumes::Pc0Above, "refused with 35 for PC 0 with SP above stack high"),
@@ -150,12 +114,6 @@ impl Meet for Resumes {
         (Resumes::MemoryFirst, "refused with 17 that have a reason for another number"),
         (Resumes::CheckNotSls, "refused by the check though the saved state is not SLS"),
         (Resumes::CheckSls, "refused by the check where the saved state is SLS"),
-        (Resumes::CeilingByBudget, "spent at the ceiling, by just the budget"),
-        (Resumes::CeilingBeforeBudget, "spent at the ceiling, before the budget"),
-        (Resumes::CeilingAtOnce, "spent at the ceiling, no step made"),
-        (Resumes::BelowCeiling, "spent one below the ceiling"),
-        (Resumes::FinishedAtCeiling, "finished by the step to the ceiling"),
-        (Resumes::FinishedBefore, "finished at the ceiling, no step made"),
     ];
 
     fn number(self) -> usize {
@@ -165,33 +123,13 @@ impl Meet for Resumes {
 
 impl Resumes {
     /// What saving that was answered so has of it.
-    pub fn of_save(given: RegisterCells, steps: u64, number: u8) -> impl Iterator<Item = Resumes> {
+    pub fn of_save(given: RegisterCells, number: u8) -> impl Iterator<Item = Resumes> {
         let (saved, pc) = (number == OK, given[5]);
-        let facts = [
+        that_hold([
             (Resumes::SavedAtFfff, saved && pc == 0xFFFF),
-            (Resumes::SavedMost, saved && steps == CEILING),
             (Resumes::SavedWide, saved && Registers::from_cells(&given).to_cells() != given),
-            (Resumes::UnsavedPc, !saved && steps <= CEILING),
-            (Resumes::UnsavedPcSmall, !saved && steps <= CEILING && pc as u16 == 0),
-            (Resumes::UnsavedSteps, !saved && pc <= 0xFFFF),
-            (Resumes::UnsavedStepsSmall, !saved && pc <= 0xFFFF && steps as u32 <= 0xFFFF),
-        ];
-        facts.into_iter().filter(|&(_, met)| met).map(|(what, _)| what)
-    }
-
-    /// What the total has of it, where a resumed run was not refused.
-    pub fn of_total(saved: &[u8], budget: u32, resumed: &Resumed) -> impl Iterator<Item = Resumes> {
-        let before = saved.get(15..19).map_or(0, |steps| steps.iter().fold(0, |sum, &byte| sum << 8 | u64::from(byte)));
-        let (spent, finished, total) = (resumed.number == SPENT, resumed.number == FINISHED, resumed.steps);
-        let (made, asked) = (total > before, before + u64::from(budget));
-        let facts = [
-            (Resumes::CeilingByBudget, spent && made && total == CEILING && asked == CEILING),
-            (Resumes::CeilingBeforeBudget, spent && made && total == CEILING && asked > CEILING),
-            (Resumes::CeilingAtOnce, spent && before == CEILING && budget > 0),
-            (Resumes::BelowCeiling, spent && made && total + 1 == CEILING),
-            (Resumes::FinishedAtCeiling, finished && made && total == CEILING),
-            (Resumes::FinishedBefore, finished && before == CEILING),
-        ];
-        facts.into_iter().filter(|&(_, met)| met).map(|(what, _)| what)
+            (Resumes::UnsavedPc, !saved),
+            (Resumes::UnsavedPcSmall, !saved && pc as u16 == 0),
+        ])
     }
 }

@@ -3,7 +3,7 @@
 use crate::compare::{self, as_expected, Compared, Ran, Tally};
 use crate::damage::sweep;
 use crate::memories::Memories;
-use crate::met::Meet;
+use crate::met::{that_hold, Meet};
 use crate::program::{Case, KnownTurn};
 use crate::random::Random;
 use gate_host::cells::{RegisterCells, FINISHED, SPENT};
@@ -66,7 +66,7 @@ impl Turns {
         let KnownTurn { back, main, greatest } = *known;
         let most = u128::from(u32::MAX);
         let over = main > most;
-        let facts = [
+        that_hold([
             (Turns::BackThoughOver, back && over),
             (Turns::Greatest, !back && main == most),
             (Turns::OverByOne, !back && main == most + 1),
@@ -74,22 +74,20 @@ impl Turns {
             (Turns::OverBeyond64Bits, !back && main > u64::MAX.into()),
             (Turns::OverSmallIn64Bits, !back && main > u64::MAX.into() && main as u64 <= 0xFFFF),
             (Turns::OverButNotMain, !back && !over && greatest > most),
-        ];
-        facts.into_iter().filter(|&(_, met)| met).map(|(what, _)| what)
+        ])
     }
 
     /// Why an accepted image with jumps back has no turn: what all of these jumps have in common.
     pub fn of_jumps_back(file: &[u8]) -> impl Iterator<Item = Turns> {
         let back = jumps_back(&twin::Image::parse(file).expect("an accepted image"));
         let all = |holds: fn(&JumpBack) -> bool| back.iter().all(holds);
-        let facts = [
+        that_hold([
             (Turns::BackToItself, all(|jump| jump.to_itself)),
             (Turns::BackToLower, all(|jump| !jump.to_itself)),
             (Turns::BackByJrf, all(|jump| matches!(jump.instruction, Instruction::Jump(1, _)))),
             (Turns::BackOnBit, all(|jump| matches!(jump.instruction, Instruction::BitJump { .. }))),
             (Turns::BackWhereNobodyCalls, all(|jump| jump.nobody_calls)),
-        ];
-        facts.into_iter().filter(|&(_, met)| met).map(|(what, _)| what)
+        ])
     }
 }
 

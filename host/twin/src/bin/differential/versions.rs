@@ -130,9 +130,9 @@ fn version(image: &[u8]) -> Option<u16> {
     Some(u16::from_be_bytes([bytes[0], bytes[1]]))
 }
 
-/// Puts another version in an image that is long enough to say one.
-pub fn set_version(image: &mut [u8], version: u16) {
-    if let Some(bytes) = image.get_mut(3..5) {
+/// Puts another version in an image, or in a saved state, which has it at the same place, if it is long enough to say one.
+pub fn set_version(file: &mut [u8], version: u16) {
+    if let Some(bytes) = file.get_mut(3..5) {
         bytes.copy_from_slice(&version.to_be_bytes());
     }
 }
