@@ -10,7 +10,7 @@ pub use flags::{flag, holds};
 pub use unary::modify;
 
 // A byte that an operation gives, and CC after it.
-#[derive(Drop)]
+#[derive(Clone, Copy)]
 pub struct ByteResult {
     pub value: u8,
     pub cc: u8,

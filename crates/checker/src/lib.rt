@@ -83,7 +83,7 @@ fn check_valid(
 }
 
 // A verdict, and where the routines of an accepted image begin.
-#[derive(Drop)]
+#[derive(Clone, Copy)]
 pub struct CheckedImage {
     pub verdict: Verdict,
     pub begins: [u16; 32],

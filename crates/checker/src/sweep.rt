@@ -15,7 +15,7 @@ use image::{Layout, Limits, begin_at, code_at};
 
 // The state between routines: the first refusal, the offset, the next routine's place in the table, the number of starts, and the needs
 // of the routines that are done.
-#[derive(Drop)]
+#[derive(Clone, Copy)]
 pub struct Sweep {
     pub refusal: u8,
     pub at: usize,

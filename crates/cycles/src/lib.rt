@@ -7,7 +7,7 @@ use effects::falls_through;
 use stm8::{Condition, Cycles, Decoded, Instruction};
 
 // What was decoded, with its cycles, both 0 where it is no instruction.
-#[derive(Drop)]
+#[derive(Clone, Copy)]
 pub struct Timed {
     pub decoded: Decoded,
     pub cycles: Cycles,

@@ -12,7 +12,7 @@ use effects::effect_of;
 use stm8::{Decoded, Flow};
 
 // What one start gives: the refusal's number, or 0, the offset after its instruction and its cells.
-#[derive(Drop)]
+#[derive(Clone, Copy)]
 pub struct Decoding {
     pub refusal: u8,
     pub next: usize,

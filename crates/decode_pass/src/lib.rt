@@ -11,7 +11,7 @@ pub use cells::callee;
 use image::Limits;
 
 // A routine: its place in the table, the offsets of its first byte and past its last, the image's version and base address, and the limits.
-#[derive(Drop)]
+#[derive(Clone, Copy)]
 pub struct Routine {
     pub index: usize,
     pub start: usize,
@@ -22,7 +22,7 @@ pub struct Routine {
 }
 
 // A refusal's number, 0 for none, and the offset that it names.
-#[derive(Drop)]
+#[derive(Clone, Copy)]
 pub struct Refusal {
     pub number: u8,
     pub at: usize,

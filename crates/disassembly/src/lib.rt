@@ -9,7 +9,7 @@ pub use notation::LONGEST;
 use stm8::Instruction;
 
 // How many bytes were written, or that the buffer has no room for them.
-#[derive(Drop)]
+#[derive(Clone, Copy)]
 pub enum Written {
     Bytes(usize),
     TooShort,

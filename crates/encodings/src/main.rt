@@ -9,13 +9,13 @@ use stm8::{Decoded, Instruction};
 const ADDRESS: u16 = 0x8000;
 
 // The bytes that a line gives, at most five, 0 past the length.
-#[derive(Drop)]
+#[derive(Clone, Copy)]
 struct Code {
     bytes: [u8; 5],
     length: usize,
 }
 
-#[derive(Drop)]
+#[derive(Clone, Copy)]
 struct Totals {
     lines: u64,
     differences: u64,

@@ -7,7 +7,7 @@ mod results;
 
 // Document 01 gives PC 24 bits; it is held in 32, and a larger value is in no code. The order leaves no gap between the registers, so that the
 // compiler keeps each in a register of its own from step to step.
-#[derive(Drop)]
+#[derive(Clone, Copy)]
 pub struct Registers {
     pub a: u8,
     pub cc: u8,
@@ -19,7 +19,7 @@ pub struct Registers {
 
 // What an instruction computes, apart from what it moves: the registers but SP and PC, the value that it stores, and whether its
 // condition holds.
-#[derive(Drop)]
+#[derive(Clone, Copy)]
 pub struct Computed {
     pub a: u8,
     pub cc: u8,
@@ -29,7 +29,7 @@ pub struct Computed {
     pub taken: bool,
 }
 
-#[derive(Drop)]
+#[derive(Clone, Copy)]
 pub enum StepAnswer {
     Made,
     Finished,
@@ -37,14 +37,14 @@ pub enum StepAnswer {
     Refused(u8),
 }
 
-#[derive(Drop)]
+#[derive(Clone, Copy)]
 pub struct Stepped {
     pub answer: StepAnswer,
     pub registers: Registers,
 }
 
 // A step with its cycles: 0 unless it was made.
-#[derive(Drop)]
+#[derive(Clone, Copy)]
 pub struct TimedStep {
     pub stepped: Stepped,
     pub cycles: u64,

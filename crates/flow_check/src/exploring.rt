@@ -14,7 +14,7 @@ pub(crate) const MIDDLE: usize = 536870912;
 
 // The state of an exploration: how many offsets the stack holds, whether the last step put one there, which and at what depth, and whether every edge
 // so far agrees with the depths. The top is kept beside the arrays, since what was just stored is slow to read back.
-#[derive(Drop)]
+#[derive(Clone, Copy)]
 pub(crate) struct Exploration {
     pub height: usize,
     pub fresh: bool,

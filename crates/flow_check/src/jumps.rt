@@ -8,7 +8,7 @@ ghost use Rattle.flow_check.specs.Internal.{Lands};
 use crate::columns::{JUMP, START};
 
 // A refusal's number, 0 for none, and the offset that it names.
-#[derive(Drop)]
+#[derive(Clone, Copy)]
 pub(crate) struct Refusal {
     pub number: u8,
     pub at: usize,

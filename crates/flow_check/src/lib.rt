@@ -19,7 +19,7 @@ use crate::measuring::check_depths;
 
 // What the check of a routine finds: a refusal's number and offset, or 0, the greatest number of stack bytes that its instructions use, and how
 // many instructions there are with those counted before it.
-#[derive(Drop)]
+#[derive(Clone, Copy)]
 pub struct Checked {
     pub refusal: u8,
     pub at: usize,

@@ -17,7 +17,7 @@ pub use records::{Record, RecordedStep, SteppedBack, step, step_back};
 pub use turns::{TurnAnswer, turn};
 
 // What starting answers: the check's verdict, or 17, and the registers to go on from, all 0 where it is refused.
-#[derive(Drop)]
+#[derive(Clone, Copy)]
 pub struct Started {
     pub verdict: Verdict,
     pub registers: Registers,

@@ -12,7 +12,7 @@ use std::num::{wrapping_add_u16, wrapping_add_u64, wrapping_sub_u16};
 use vectors::{byte_text, registers_text, word_text};
 
 // How far a run in pieces came.
-#[derive(Drop)]
+#[derive(Clone, Copy)]
 struct Progress {
     registers: Registers,
     steps: u64,

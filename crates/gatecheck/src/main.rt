@@ -13,7 +13,7 @@ const INPUT: usize = 4181;
 // One for each code byte of any image, so that 5 is never given.
 const MARKS: usize = 4096;
 
-#[derive(Drop)]
+#[derive(Clone, Copy)]
 enum Input {
     Bytes(usize),
     Failed,

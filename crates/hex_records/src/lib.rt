@@ -10,7 +10,7 @@ pub use writing::put_line;
 
 // Where reading stands at a line's first byte: no data record yet; the address that follows on, 10000 and more where none does; the end record
 // was read.
-#[derive(Drop)]
+#[derive(Clone, Copy)]
 pub enum Place {
     First,
     Next(u32),
@@ -18,7 +18,7 @@ pub enum Place {
 }
 
 // What the bytes of a line add up to, modulo 256, and whether two digits spell each.
-#[derive(Drop)]
+#[derive(Clone, Copy)]
 pub struct Summed {
     pub sum: u16,
     pub good: bool,

@@ -9,14 +9,14 @@ use numbers::checks::{differ, first, under, unless};
 use numbers::words::{byte_at, word_at};
 
 // What one look at the length list tells: the state after it, and where the routines begin, to 16 bits, which no valid image passes.
-#[derive(Drop)]
+#[derive(Clone, Copy)]
 pub(crate) struct ReadLengths {
     pub state: LengthState,
     pub begins: [u16; 32],
 }
 
 // The layout that the header says, and 4 where it breaks a rule.
-#[derive(Drop)]
+#[derive(Clone, Copy)]
 pub(crate) struct CheckedLayout {
     pub layout: Layout,
     pub refusal: u8,

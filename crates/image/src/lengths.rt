@@ -5,7 +5,7 @@ ghost use Rattle.image.specs.Lengths.{unfed, fed, cut};
 use std::num::wrapping_add_u32;
 
 // The sum of the lengths so far, which is under 2^24 for the 255 of the longest list, and whether one of them was 0.
-#[derive(Drop)]
+#[derive(Clone, Copy)]
 pub struct LengthState {
     pub sum: u32,
     pub empty: bool,

@@ -21,14 +21,14 @@ use numbers::checks::first;
 pub use parts::parts_check;
 
 // Addresses from low to high, both included.
-#[derive(Drop)]
+#[derive(Clone, Copy)]
 pub struct Area {
     pub low: u16,
     pub high: u16,
 }
 
 // Where a gate routine may store directly, and its stack. A second grant whose low is above its high is none.
-#[derive(Drop)]
+#[derive(Clone, Copy)]
 pub struct Limits {
     pub grant: Area,
     pub stack: Area,
@@ -36,7 +36,7 @@ pub struct Limits {
 }
 
 // The version, the base address, the number of routines, the index of the first code byte in the image, and the number of code bytes.
-#[derive(Drop)]
+#[derive(Clone, Copy)]
 pub struct Layout {
     pub version: u16,
     pub base: u16,
@@ -45,14 +45,14 @@ pub struct Layout {
     pub size: usize,
 }
 
-#[derive(Drop)]
+#[derive(Clone, Copy)]
 pub enum Validated {
     Refused(u8),
     Valid(Layout),
 }
 
 // An answer, and where the routines of a valid image begin.
-#[derive(Drop)]
+#[derive(Clone, Copy)]
 pub struct Measured {
     pub validated: Validated,
     pub begins: [u16; 32],

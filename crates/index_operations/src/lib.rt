@@ -7,7 +7,7 @@ use numbers::words::low;
 use stm8::{WordAluOp, WordModifyOp};
 
 // A word that an operation gives, and CC after it.
-#[derive(Drop)]
+#[derive(Clone, Copy)]
 pub struct WordResult {
     pub value: u16,
     pub cc: u8,

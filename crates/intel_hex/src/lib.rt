@@ -16,21 +16,21 @@ use rows::{put_text, text_length};
 use scanning::scan;
 
 // The refusal of a text, 0 for none, and its offset.
-#[derive(Drop)]
+#[derive(Clone, Copy)]
 pub struct Found {
     pub number: u8,
     pub offset: usize,
 }
 
 // What writing answers: 0, or a refusal from 2 to 5; and the length of the text, 0 where it is refused.
-#[derive(Drop)]
+#[derive(Clone, Copy)]
 pub struct HexWritten {
     pub number: u8,
     pub length: usize,
 }
 
 // What reading answers: 0, or a refusal, 30 to 32, 4 or 5; its offset in the text; and the length of the image, 0 where it is refused.
-#[derive(Drop)]
+#[derive(Clone, Copy)]
 pub struct HexRead {
     pub number: u8,
     pub offset: usize,

@@ -6,7 +6,7 @@ use bytes::scan::find;
 use hex_records::{Place, data_length, judge_line, place_after};
 
 // The first offending line of a text: its refusal, 0 for none, and its offset; and the number of code bytes where there is none.
-#[derive(Drop)]
+#[derive(Clone, Copy)]
 pub(crate) struct Scanned {
     pub number: u8,
     pub offset: usize,

@@ -12,7 +12,7 @@ ghost use Rattle.machine.specs.Internal.{only_step};
 pub use execution::{Registers, StepAnswer, Stepped, TimedStep};
 use image::{Limits, Validated};
 
-#[derive(Drop)]
+#[derive(Clone, Copy)]
 pub enum RunAnswer {
     Finished,
     Spent,
@@ -20,7 +20,7 @@ pub enum RunAnswer {
     Refused(u8),
 }
 
-#[derive(Drop)]
+#[derive(Clone, Copy)]
 pub struct Ran {
     pub answer: RunAnswer,
     pub registers: Registers,
@@ -28,7 +28,7 @@ pub struct Ran {
 }
 
 // A run with its cycles: the sum over the steps made.
-#[derive(Drop)]
+#[derive(Clone, Copy)]
 pub struct TimedRun {
     pub ran: Ran,
     pub cycles: u64,

@@ -9,7 +9,7 @@ use machine::{Registers, StepAnswer};
 use numbers::words::byte_at;
 use vectors::{put_cells, registers_of};
 
-#[derive(Drop)]
+#[derive(Clone, Copy)]
 struct Totals {
     steps: u64,
     differences: u64,

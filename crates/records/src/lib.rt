@@ -13,7 +13,7 @@ use machine::{Registers, Stepped};
 
 // The registers before a step and the bytes of memory that it overwrote: how many, where each lies and what it held, the lower address first. A count
 // and addresses have 32 bits, as the cells of a caller in C: a value that is too large is refused, and none is cut.
-#[derive(Drop)]
+#[derive(Clone, Copy)]
 pub struct Record {
     pub registers: Registers,
     pub count: u32,
@@ -22,7 +22,7 @@ pub struct Record {
 }
 
 // A step with its cycles and its record.
-#[derive(Drop)]
+#[derive(Clone, Copy)]
 pub struct RecordedStep {
     pub stepped: Stepped,
     pub cycles: u64,
@@ -30,7 +30,7 @@ pub struct RecordedStep {
 }
 
 // What stepping back answers: 0, 17 or 26, and the record's registers, whatever the number.
-#[derive(Drop)]
+#[derive(Clone, Copy)]
 pub struct SteppedBack {
     pub number: u8,
     pub registers: Registers,

@@ -16,14 +16,14 @@ use numbers::words::word_at;
 use stm8::{Decoded, Instruction};
 
 // Whether there is a call, and the offset where it stands.
-#[derive(Drop)]
+#[derive(Clone, Copy)]
 pub struct CallAt {
     pub found: bool,
     pub at: usize,
 }
 
 // The routine whose return address lies at place + 1, if there is one.
-#[derive(Drop)]
+#[derive(Clone, Copy)]
 pub struct Caller {
     pub found: bool,
     pub routine: usize,

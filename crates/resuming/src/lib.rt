@@ -15,7 +15,7 @@ use numbers::checks::{first, unless};
 use saved_state::{SavedState, saved_check, state_in};
 
 // Finished or spent, as a run; or refused, with the number and, where the check refuses, its offset.
-#[derive(Drop)]
+#[derive(Clone, Copy)]
 pub enum ResumeAnswer {
     Finished,
     Spent,
@@ -23,7 +23,7 @@ pub enum ResumeAnswer {
 }
 
 // Steps are the total, the record's and those made now; cycles are those of the steps made now.
-#[derive(Drop)]
+#[derive(Clone, Copy)]
 pub struct Resumed {
     pub answer: ResumeAnswer,
     pub registers: Registers,

@@ -10,14 +10,14 @@ use numbers::words::{byte_at, word_at};
 const WRITTEN: u8 = 2;
 
 // Registers, and the steps made so far.
-#[derive(Drop)]
+#[derive(Clone, Copy)]
 pub struct SavedState {
     pub registers: Registers,
     pub steps: u64,
 }
 
 // What saving answers: 0 and a record, or 35 and bytes all 00.
-#[derive(Drop)]
+#[derive(Clone, Copy)]
 pub struct Saved {
     pub number: u8,
     pub bytes: [u8; 23],

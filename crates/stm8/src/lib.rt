@@ -4,21 +4,21 @@ mod tables;
 pub use tables::map_lengths;
 
 // The index registers.
-#[derive(Drop)]
+#[derive(Clone, Copy)]
 pub enum Register {
     X,
     Y,
 }
 
 // The halves of an index register: XL and XH, YL and YH.
-#[derive(Drop)]
+#[derive(Clone, Copy)]
 pub enum Half {
     Low,
     High,
 }
 
 // The offset of an indexed operand: (X), (shortoff,X), (longoff,X).
-#[derive(Drop)]
+#[derive(Clone, Copy)]
 pub enum Offset {
     Zero,
     Byte(u8),
@@ -26,7 +26,7 @@ pub enum Offset {
 }
 
 // A, #byte, #word, shortmem, longmem, an indexed operand, (shortoff,SP).
-#[derive(Drop)]
+#[derive(Clone, Copy)]
 pub enum Operand {
     Accumulator,
     Immediate(u8),
@@ -38,7 +38,7 @@ pub enum Operand {
 }
 
 // Operations on A with an operand.
-#[derive(Drop)]
+#[derive(Clone, Copy)]
 pub enum AluOp {
     Adc,
     Add,
@@ -53,7 +53,7 @@ pub enum AluOp {
 }
 
 // Operations that read, modify and write their operand. (TNZ writes nothing back.)
-#[derive(Drop)]
+#[derive(Clone, Copy)]
 pub enum ModifyOp {
     Clr,
     Cpl,
@@ -70,7 +70,7 @@ pub enum ModifyOp {
 }
 
 // Operations on an index register with #word.
-#[derive(Drop)]
+#[derive(Clone, Copy)]
 pub enum WordAluOp {
     Addw,
     Cpw,
@@ -78,7 +78,7 @@ pub enum WordAluOp {
 }
 
 // Operations that modify an index register.
-#[derive(Drop)]
+#[derive(Clone, Copy)]
 pub enum WordModifyOp {
     Clrw,
     Decw,
@@ -86,7 +86,7 @@ pub enum WordModifyOp {
 }
 
 // Operations on a bit of longmem.
-#[derive(Drop)]
+#[derive(Clone, Copy)]
 pub enum BitOp {
     Bccm,
     Bcpl,
@@ -95,14 +95,14 @@ pub enum BitOp {
 }
 
 // Jumps by a bit of longmem.
-#[derive(Drop)]
+#[derive(Clone, Copy)]
 pub enum BitTest {
     Btjf,
     Btjt,
 }
 
 // The conditions of the relative jumps, in the order of their op-codes 20 to 2F.
-#[derive(Drop)]
+#[derive(Clone, Copy)]
 pub enum Condition {
     Jra,
     Jrf,
@@ -123,7 +123,7 @@ pub enum Condition {
 }
 
 // Operations on a flag alone.
-#[derive(Drop)]
+#[derive(Clone, Copy)]
 pub enum FlagOp {
     Ccf,
     Rcf,
@@ -131,7 +131,7 @@ pub enum FlagOp {
     Scf,
 }
 
-#[derive(Drop)]
+#[derive(Clone, Copy)]
 pub enum Instruction {
     // on A, from the operand
     Alu(AluOp, Operand),
@@ -177,7 +177,7 @@ pub enum Instruction {
 }
 
 // What decoding finds: an instruction and its length, an op-code outside the set, or bytes that end too soon.
-#[derive(Drop)]
+#[derive(Clone, Copy)]
 pub enum Decoded {
     Found(Instruction, usize),
     Outside,
@@ -185,7 +185,7 @@ pub enum Decoded {
 }
 
 // What encoding gives: the number 0 or 18, the length, and the bytes, 0 past the length.
-#[derive(Drop)]
+#[derive(Clone, Copy)]
 pub struct Encoded {
     pub number: u8,
     pub length: usize,
@@ -193,14 +193,14 @@ pub struct Encoded {
 }
 
 // How many bytes a store writes.
-#[derive(Drop)]
+#[derive(Clone, Copy)]
 pub enum Width {
     Byte,
     Word,
 }
 
 // Where an instruction stores: nowhere, at an address, at an offset from SP, or on the bytes that it pushes.
-#[derive(Drop)]
+#[derive(Clone, Copy)]
 pub enum Place {
     Nowhere,
     Direct(u16, Width),
@@ -210,7 +210,7 @@ pub enum Place {
 
 // Where an instruction goes on: at the next one; there or at an offset from there; at an offset from there alone; at a routine, by
 // its address or by an offset; or where the routine was called.
-#[derive(Drop)]
+#[derive(Clone, Copy)]
 pub enum Flow {
     Next,
     Branch(u8),
@@ -221,7 +221,7 @@ pub enum Flow {
 }
 
 // What an instruction moves, apart from what it computes: the stack bytes it pops and then pushes, where it stores, and its flow.
-#[derive(Drop)]
+#[derive(Clone, Copy)]
 pub struct Effect {
     pub pops: u8,
     pub pushes: u8,
@@ -230,7 +230,7 @@ pub struct Effect {
 }
 
 // The cycles of an instruction: where a branch is not taken, and where it is. What prints one figure has it in both.
-#[derive(Drop)]
+#[derive(Clone, Copy)]
 pub struct Cycles {
     pub untaken: u8,
     pub taken: u8,

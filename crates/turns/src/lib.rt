@@ -16,7 +16,7 @@ use image::{Layout, Limits, base_of, code_at, count_of, version_of};
 
 // What is worked out for an image: refused as the check refuses it, with number and offset; no turn, where some jump goes to its own or a lower
 // address; over, where main's turn is above 4,294,967,295; else main's turn.
-#[derive(Drop)]
+#[derive(Clone, Copy)]
 pub enum TurnAnswer {
     Refused(u8, u16),
     NoTurn,
@@ -25,7 +25,7 @@ pub enum TurnAnswer {
 }
 
 // An answer in numbers: 0 for a turn, 66 for none, 67 for over, else the refusal's; the refusal's offset, and the turn, 0 where there is none.
-#[derive(Drop)]
+#[derive(Clone, Copy)]
 pub struct TurnValues {
     pub number: u8,
     pub offset: u16,

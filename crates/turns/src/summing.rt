@@ -16,7 +16,7 @@ use image::{Layout, Limits};
 use stm8::{Decoded, Flow};
 
 // What stands at an offset: its turn, whether it jumps to its own or a lower address, and the offset behind it.
-#[derive(Drop)]
+#[derive(Clone, Copy)]
 pub struct Counted {
     pub turn: u64,
     pub back: bool,
@@ -24,7 +24,7 @@ pub struct Counted {
 }
 
 // The sum over a routine's instructions, and whether one of them jumps back; then the sum is cut short.
-#[derive(Drop)]
+#[derive(Clone, Copy)]
 pub struct Sum {
     pub turn: u64,
     pub back: bool,
