@@ -1,4 +1,6 @@
 // What the operations on bytes, bits and flags give: the manual's instruction pages, by operation.
+#![tactic(auto)]
+
 mod accumulator;
 mod bits;
 mod flags;

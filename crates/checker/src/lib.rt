@@ -1,4 +1,6 @@
 // The check of an image under limits: refusals 1 to 16, the marks, the need and the count.
+#![tactic(auto)]
+
 mod marks;
 mod sweep;
 

@@ -1,4 +1,6 @@
 // The code of an image: the set of its version, what stands at an offset, and what an instruction does to its routine's depth.
+#![tactic(auto)]
+
 mod depth;
 mod offsets;
 mod versions;

@@ -1,6 +1,8 @@
 // Runs the codec at the borders of the gate set, a line a case: instructions to encode, with the number, the length and the five bytes; loose bytes to
 // decode, by the map's own lengths and by lent tables, with the number and the length, and in each way of decoding with the cycles not taken and
 // taken. A number is 0 where there is an instruction.
+#![tactic(auto)]
+
 use code::lengths_of;
 use cycles::Timed;
 use libc::STDOUT_FILENO;

@@ -1,5 +1,7 @@
 // Prints a line for each op-code of the set, of the pages without pre-code, with 72 and with 90 in turn, rising: the op-code after its
 // pre-code, the cycles not taken and taken, and the text, with the instruction at 8000 and operand bytes 00.
+#![tactic(auto)]
+
 use cycles::Timed;
 use disassembly::{LONGEST, Written};
 use libc::STDOUT_FILENO;

@@ -1,4 +1,6 @@
 // The cycles of an instruction, and what was decoded with its cycles.
+#![tactic(auto)]
+
 ghost use Rattle.std.specs.Prelude.{◌≡◌};
 ghost use Rattle.stm8.specs.Cycles.{jump_cycles, cycles};
 ghost use Rattle.cycles.specs.Timed.{with_cycles};

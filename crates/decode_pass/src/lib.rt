@@ -1,5 +1,7 @@
 // The decode pass over a routine of an image: 8, 9 and 15 at each start, rising. Every start is decoded once, and its cells are stored for the
 // passes after it.
+#![tactic(auto)]
+
 mod cells;
 mod decoding;
 

@@ -1,4 +1,6 @@
 // Decoding: the instruction at the front of a slice, an op-code outside the set, or bytes that end too soon.
+#![tactic(auto)]
+
 ghost use Rattle.std.specs.Prelude.{◌≡◌};
 ghost use Rattle.stm8.specs.Decoding.{decoded, decoded_by, decoding_number};
 ghost use Rattle.stm8.specs.declared.Instruction.{Instruction};

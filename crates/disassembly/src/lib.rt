@@ -1,4 +1,6 @@
 // The text of an instruction in the manual's assembler column notation.
+#![tactic(auto)]
+
 mod instructions;
 
 ghost use Rattle.std.specs.Prelude.{◌≡◌};

@@ -1,4 +1,6 @@
 // The effect of an instruction, which the check and the machine share.
+#![tactic(auto)]
+
 ghost use Rattle.std.specs.Prelude.{◌≡◌};
 ghost use Rattle.stm8.specs.Effects.{relative as relative_to, bytes_wide, place_of, writes_back, modify_place, falls_through, jump_flow, moves as moves_of, goes as goes_of, calls as calls_of, effect};
 

@@ -1,4 +1,6 @@
 // Encoding: the bytes of an instruction, or number 18.
+#![tactic(auto)]
+
 ghost use Rattle.std.specs.Prelude.{◌≡◌, [], ◌∷◌, cond, ◌+◌, ◌*◌, ◌<◌, leb};
 ghost use Rattle.numbers.specs.Words.{high as high_of, low as low_of};
 ghost use Rattle.stm8.specs.Encoding.{on_register, indexed_bytes, alu_bytes, mov_bytes, word_alu_bytes, padded, encoded};

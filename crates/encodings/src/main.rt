@@ -1,5 +1,7 @@
 // Compares decoding, text and encoding with data/encodings.txt: a line for each encoding that an assembler made, its text, a tab and
 // its bytes in hexadecimal, with the instruction at 8000.
+#![tactic(auto)]
+
 use disassembly::{LONGEST, Written};
 use hexadecimal::parse;
 use libc::STDOUT_FILENO;

@@ -1,4 +1,6 @@
 // An instruction on the registers: what it computes, what it moves, and its traps.
+#![tactic(auto)]
+
 mod moving;
 mod operands;
 mod operations;

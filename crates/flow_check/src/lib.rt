@@ -1,4 +1,6 @@
 // The check of one routine by its cells, and of nothing that is STM8's: 13 and 10; 6; 7; 11, 12 and 14; its need, its count and its marks.
+#![tactic(auto)]
+
 mod columns;
 mod exploring;
 mod jumps;

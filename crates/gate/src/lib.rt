@@ -1,4 +1,6 @@
 // Starting a gate routine; check, turn, step, step back and run beside it.
+#![tactic(auto)]
+
 ghost use Rattle.std.specs.Prelude.{◌≡◌, ◌+◌, ◌≤◌, ◌<◌, length};
 ghost use Rattle.image.specs.Image.{base_of, count_of, start_of, main_of};
 ghost use Rattle.image.specs.Lengths.{Begins};

@@ -1,4 +1,6 @@
 // The gate for callers in C: numbers, slices and fixed arrays alone. include/gate.h has the declarations.
+#![tactic(auto)]
+
 ghost use Rattle.std.specs.Prelude.{◌≡◌, ◌<◌, [], ◌∷◌};
 ghost use Rattle.rules.specs.Outcome.{values_of};
 ghost use Rattle.acceptance.specs.Check.{checked};

@@ -1,5 +1,7 @@
 // Replays the checks, starts and turns of the conformance corpus (conformance/README.md has the fields of a line and the forms of an answer): prints
 // each line of standard input anew, with what checking, starting and running to the end, or the turn comes to. No contract can speak of what is printed.
+#![tactic(auto)]
+
 ghost use Rattle.std.specs.Prelude.{◌≡◌, ◌/◌, ◌%◌, ◌<◌, ◌≤◌, false, length, if◌then◌else◌, nat_le, nat_lt};
 
 use bytes::scan::find;

@@ -1,4 +1,6 @@
 // The verdict program: reads limits and an image from standard input, checks the image, and prints the verdict and a line for each start.
+#![tactic(auto)]
+
 ghost use Rattle.std.specs.Prelude.{length};
 ghost use Rattle.gatecheck.specs.Reading.{ReadInto};
 

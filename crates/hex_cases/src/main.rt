@@ -1,5 +1,7 @@
 // Replays the writes and reads of the conformance corpus (conformance/README.md has the fields of a line and the forms of an answer): prints each line
 // of standard input anew, with what writing an image as Intel HEX, or reading one from a text, comes to. No contract can speak of what is printed.
+#![tactic(auto)]
+
 use bytes::scan::find;
 use hexadecimal::parse;
 use intel_hex::{read_input, write_hex};

@@ -1,4 +1,6 @@
 // Records of Intel HEX, a line each: judged and taken apart where they stand in a text, and written.
+#![tactic(auto)]
+
 mod digits;
 mod judging;
 mod reading;

@@ -1,4 +1,6 @@
 // Bytes from hexadecimal text.
+#![tactic(auto)]
+
 ghost use Rattle.std.specs.Prelude.{◌≡◌, ◌≤◌, ◌++◌, length, take, drop};
 ghost use Rattle.hexadecimal.specs.Text.{digit as digit_of, pair as pair_of, spelled};
 

@@ -1,4 +1,6 @@
 // SLU images and limits: refusals 1 to 4, and the layout of an image that is not refused.
+#![tactic(auto)]
+
 mod access;
 mod areas;
 mod header;

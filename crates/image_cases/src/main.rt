@@ -1,5 +1,7 @@
 // Runs refusals 1 to 4 and acceptance at the borders that gate_cases has no case of, a line a case: what the case is about, and the
 // refusal's number, 0 where nothing is refused.
+#![tactic(auto)]
+
 ghost use Rattle.std.specs.Prelude.{◌+◌, ◌≤◌, length, ◌≡◌};
 
 use image::{Area, Limits, limits_of, validate, validation_number};

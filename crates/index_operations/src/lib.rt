@@ -1,4 +1,6 @@
 // What the operations on an index register give, as the manual's instruction pages have it, by operation.
+#![tactic(auto)]
+
 ghost use Rattle.std.specs.Prelude.{◌≡◌};
 ghost use Rattle.index_operations.specs.Words.{ldw_result, word_alu_result, word_modify_result, mul_result};
 

@@ -1,4 +1,6 @@
 // The layout of an image as the 16-bit cells that a caller in C gets.
+#![tactic(auto)]
+
 ghost use Rattle.std.specs.Prelude.{◌≡◌, ◌∷◌, ◌≤◌, replicate};
 ghost use Rattle.image.specs.Lengths.{Begins};
 ghost use Rattle.image.specs.ValidLayout.{ValidLayout};

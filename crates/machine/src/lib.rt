@@ -1,4 +1,6 @@
 // The machine: one step and a run.
+#![tactic(auto)]
+
 mod running;
 mod stepping;
 mod traps;

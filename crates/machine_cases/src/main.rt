@@ -1,5 +1,7 @@
 // Replays the steps and runs of the conformance corpus (conformance/README.md has the fields of a line and the forms of an answer): prints each line
 // of standard input anew, with the answer that the machine gives. No contract can speak of what is printed.
+#![tactic(auto)]
+
 ghost use Rattle.std.specs.Prelude.{◌≡◌, ◌≤◌, length};
 ghost use Rattle.machine_cases.specs.Case.{step_of, run_of};
 

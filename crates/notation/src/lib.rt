@@ -1,4 +1,6 @@
 // The manual's assembler column notation: names, operands, and the lines that they make, written in place.
+#![tactic(auto)]
+
 pub mod lines;
 pub mod names;
 mod writing;

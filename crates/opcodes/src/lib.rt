@@ -1,5 +1,7 @@
 // The instruction at an op-code of a page, with the bytes after it: the row by the op-code's high digit, then the column. Whether the map
 // has the op-code is not asked: where it has not, some instruction or other is given.
+#![tactic(auto)]
+
 ghost use Rattle.std.specs.Prelude.{◌≡◌};
 ghost use Rattle.numbers.specs.Words.{high as high_of, low as low_of};
 ghost use Rattle.stm8.specs.OpcodeMap.{Plain, After72, After90};

@@ -1,5 +1,7 @@
 // Replays the records of the conformance corpus (conformance/README.md has the fields of a line and the forms of an answer): prints each line of
 // standard input anew, with what a step with its record and giving it back come to. No contract can speak of what is printed.
+#![tactic(auto)]
+
 ghost use Rattle.std.specs.Prelude.{◌≡◌, cond, ◌≤◌, length};
 ghost use Rattle.records.specs.Back.{stepped_back};
 ghost use Rattle.record_cases.specs.Case.{record_in};

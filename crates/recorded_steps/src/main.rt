@@ -1,5 +1,7 @@
 // Compares steps with data/steps.bin: a record for each step that a simulator made, with the code, the registers and the memory cells
 // before it, and the registers and the cells written after it.
+#![tactic(auto)]
+
 ghost use Rattle.std.specs.Prelude.{◌≡◌, true, ◌≤◌, length};
 ghost use Rattle.recorded_steps.specs.Record.{longest_image, cells_before, cells_after, Goes, AsRecorded};
 

@@ -1,4 +1,6 @@
 // Steps with their records, and stepping back: the registers before a step and the bytes of memory that it overwrote, given back.
+#![tactic(auto)]
+
 mod back;
 mod recording;
 

@@ -1,5 +1,7 @@
 // Replays the saves and resumes of the conformance corpus (conformance/README.md has the fields of a line and the forms of an answer): prints each line
 // of standard input anew, with what saving gives, or resuming from a saved state comes to. No contract can speak of what is printed.
+#![tactic(auto)]
+
 ghost use Rattle.std.specs.Prelude.{◌≡◌, ◌+◌, ◌≤◌, length, get_or};
 ghost use Rattle.resume_cases.specs.Case.{steps_in, saved_of, ResumesCase};
 

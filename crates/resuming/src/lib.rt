@@ -1,4 +1,6 @@
 // Resuming from a saved state: refused, or the run goes on.
+#![tactic(auto)]
+
 mod frames;
 mod good;
 

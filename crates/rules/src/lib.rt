@@ -1,4 +1,6 @@
 // The verdict of a check. What it means is in specs/: document 01's rules, and which refusal an image gets.
+#![tactic(auto)]
+
 ghost use Rattle.std.specs.Prelude.{◌≡◌};
 ghost use Rattle.rules.specs.Outcome.{values_of};
 

@@ -1,4 +1,6 @@
 // Saved states: registers and steps as SLS records, written as version 0002, of 23 bytes, and read as that or as version 0001, of 19.
+#![tactic(auto)]
+
 ghost use Rattle.std.specs.Prelude.{◌≡◌, ◌≤◌};
 ghost use Rattle.saved_state.specs.Sls.{known as is_known, step_bytes, number_bytes, number_at, state_bytes, saving_number, saved, saved_check, state_in};
 

@@ -1,4 +1,6 @@
 // The instructions of the gate set. The op-code map, the bytes of an instruction, its effect and its cycles stand in specs/.
+#![tactic(auto)]
+
 mod tables;
 
 pub use tables::map_lengths;

@@ -1,4 +1,6 @@
 // What an instruction reads and stores, and the traps of SP, of stores and of calls.
+#![tactic(auto)]
+
 mod reading;
 mod storing;
 mod traps;

@@ -1,4 +1,6 @@
 // Decoding with cycles: each way of decoding, and what it finds with the cycles of the instruction.
+#![tactic(auto)]
+
 ghost use Rattle.std.specs.Prelude.{◌≡◌, List, ℕ};
 ghost use Rattle.stm8.specs.Decoding.{decoded, decoded_by};
 ghost use Rattle.image.specs.Image.{version_of, code_of};

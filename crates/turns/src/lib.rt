@@ -1,4 +1,6 @@
 // The turn of an image: how many steps a run of it takes at most.
+#![tactic(auto)]
+
 mod summing;
 
 ghost use Rattle.std.specs.Prelude.{◌≡◌};

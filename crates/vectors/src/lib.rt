@@ -1,4 +1,6 @@
 // Registers and memory: as bytes, in the form in which recorded steps and written cases give them, and as text, in which cases print them.
+#![tactic(auto)]
+
 ghost use Rattle.std.specs.Prelude.{◌≡◌, ◌≤◌};
 ghost use Rattle.std.proofs.lemmas.List.Edits.{sets};
 ghost use Rattle.notation.specs.Notation.{byte_digits, word_digits};
