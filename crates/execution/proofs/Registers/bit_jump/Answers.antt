@@ -1,0 +1,6 @@
+-- `execution::Registers::bit_jump` meets its contract.
+use borrow.Author.Rules.{rules}
+use Rattle.execution.proofs.Registers.bit_jump.Goals as goal
+
+pub returns : goal.returns
+returns c = rw (c.testing.ensures, c.bit_tested.ensures, c.bit_holds.ensures)

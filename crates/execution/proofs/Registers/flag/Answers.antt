@@ -1,0 +1,6 @@
+-- `execution::Registers::flag` meets its contract.
+use borrow.Author.Rules.{rules}
+use Rattle.execution.proofs.Registers.flag.Goals as goal
+
+pub returns : goal.returns
+returns c = rw (c.testing.ensures, c.flag.ensures)

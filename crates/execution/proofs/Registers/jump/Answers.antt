@@ -1,0 +1,6 @@
+-- `execution::Registers::jump` meets its contract.
+use borrow.Author.Rules.{rules}
+use Rattle.execution.proofs.Registers.jump.Goals as goal
+
+pub returns : goal.returns
+returns c = rw (c.testing.ensures, c.holds.ensures)

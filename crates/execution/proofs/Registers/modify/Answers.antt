@@ -1,0 +1,6 @@
+-- `execution::Registers::modify` meets its contract.
+use borrow.Author.Rules.{rules}
+use Rattle.execution.proofs.Registers.modify.Goals as goal
+
+pub returns : goal.returns
+returns c = rw (c.into_operand.ensures, c.modify.ensures)

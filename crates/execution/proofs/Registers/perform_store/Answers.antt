@@ -1,0 +1,14 @@
+-- `execution::Registers::perform_store` meets its contract.
+use native.Mathlib.Omega.{arith}
+use borrow.Author.Rules.{rules}
+use Rattle.stm8.specs.declared.Flow.TheVariants.{Next}
+use Rattle.execution.specs.Computing.{computed}
+use Rattle.execution.specs.Internal.{performed_by, performed_as}
+use Rattle.execution.proofs.Shapes.{in_range}
+use Rattle.execution.proofs.Registers.perform_store.Goals as goal
+
+pub returns : goal.returns
+unfolding performed_as performed_by computed
+returns c image inside = rw c.store_a-c.ensures at
+    (c.stores.ensures image c.args.memory.now _ c.args.limits 0 _ (in_range c.args.limits c.args.self.sp inside _ Next) (omega arith)
+    c.put_operand-trap.ensures)

@@ -1,0 +1,6 @@
+-- `execution::Registers::pushw` meets its contract.
+use borrow.Author.Rules.{rules}
+use Rattle.execution.proofs.Registers.pushw.Goals as goal
+
+pub returns : goal.returns
+returns c = rw (c.storing.ensures, c.index.ensures)

@@ -1,0 +1,6 @@
+-- `execution::Registers::store_a` meets its contract.
+use borrow.Author.Rules.{rules}
+use Rattle.execution.proofs.Registers.store_a.Goals as goal
+
+pub returns : goal.returns
+returns c = rw (c.storing.ensures, c.with_nz_of_byte.ensures)

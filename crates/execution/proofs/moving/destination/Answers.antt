@@ -1,0 +1,6 @@
+-- `execution::moving::destination` meets its contract.
+use borrow.Author.Rules.{rules}
+use Rattle.execution.proofs.moving.destination.Goals as goal
+
+pub returns-then-taken : goal.returns-then-taken
+returns-then-taken c = rw (c.target.ensures, c.if-taken.true)

@@ -1,0 +1,52 @@
+-- `flow_check::exploring::follow` meets its contract. There is room on the stack where a target's depth is not known yet: the stack is no higher
+-- than the number of depths that are known.
+use Rattle.std.proofs.Common.{◌≡◌, ◌-◌, ◌%◌, ◌<◌, arith, get_or-set_same, rules}
+use Rattle.control_flow.specs.Exploring.{nowhere, fresh, same, other}
+use Rattle.control_flow.proofs.Knowing.{room}
+use Rattle.flow_check.specs.Internal.{Followable}
+use Rattle.flow_check.proofs.Steps.{put_on_top}
+use Rattle.flow_check.proofs.exploring.follow.Goals as goal
+
+abbrev Asks : Start → Type 0
+Asks s = Followable s.args.to s.args.depth s.args.depths.now s.args.stack.now s.args.e.height
+
+-- the stack has room
+low : (c : Then-old-eq0) → Asks c → c.args.e.height < 4096
+low c f =
+    omega (arith, room c.args.depths.now ((c.args.to - 1) % 4096) (omega (arith, f.cells)) c.if-old-eq0.true, f.cells, f.room)
+
+pub returns-then-old-eq0 : goal.returns-then-old-eq0
+returns-then-old-eq0 c = record {
+  height_bound = omega arith;
+  followed = λ f.
+      let l = low c f in
+      let here : c.args.e.height % 4096 ≡ c.args.e.height = omega (arith, l) in
+      rw here (
+        fresh ((c.args.to - 1) % 4096) (omega (arith, f.high, c.if-to-eq0.false)) c.if-old-eq0.true,
+        λ n told. (
+          put_on_top c.args.stack.now c.args.e.height ((c.args.to - 1) % 4096) f.slots (omega (arith, l)),
+          get_or-set_same c.args.depths.now ((c.args.to - 1) % 4096) c.args.depth 0 (omega (arith, f.cells)),
+        ),
+      );
+}
+
+pub returns-then-old-depth : goal.returns-then-old-depth
+returns-then-old-depth c = record {
+  height_bound = omega arith;
+  followed = λ f. (same ((c.args.to - 1) % 4096) (omega (arith, f.high, c.if-to-eq0.false)) c.if-old-depth.true f.some, λ n. n);
+}
+
+pub returns : goal.returns
+returns c = record {
+  height_bound = omega arith;
+  followed = λ f. (
+    other ((c.args.to - 1) % 4096) (omega (arith, f.high, c.if-to-eq0.false)) (omega (arith, c.if-old-eq0.false)) c.if-old-depth.false,
+    λ n. n,
+  );
+}
+
+pub returns-then-to-eq0 : goal.returns-then-to-eq0
+returns-then-to-eq0 c = record {
+  height_bound = omega arith;
+  followed = λ f. (nowhere c.if-to-eq0.true, λ n. n);
+}

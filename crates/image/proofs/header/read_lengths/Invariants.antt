@@ -1,0 +1,15 @@
+-- `image::header::read_lengths` meets its contract. The loop's invariant: the state is that after the lengths before k, and the routines before k
+-- begin as gathered.
+use Rattle.std.proofs.Common.{◌≡◌, ◌+◌, ◌-◌, ◌*◌, ◌<◌, ◌≤◌, length, take, refl, ap, ◌∙◌, arith, take_all, rules}
+use Rattle.image.specs.Image.{count_of, lengths_of}
+use Rattle.image.specs.Lengths.{after_all, BeginsTo16}
+use Rattle.image.proofs.Measuring.{lengths_count}
+use Rattle.image.proofs.Feeding.{cut_whole, state_next, state_sum, gathered_size, gathered}
+use Rattle.image.proofs.header.read_lengths.Given as goal
+
+abbrev pub invariant-loop-k : goal.invariant-loop-k
+invariant-loop-k l =
+    (l.k ≤ l.count) × (length l.begins ≡ 32) × (l.state ≡ after_all (take l.k (lengths_of l.image))) × (l.state.sum ≤ 65535 * l.k) × BeginsTo16 l.image l.begins l.k
+
+abbrev pub decreases-loop-k : goal.decreases-loop-k
+decreases-loop-k l = l.count - l.k

@@ -1,0 +1,6 @@
+-- `image::measure` meets its contract.
+use Rattle.std.proofs.Common.{rules}
+use Rattle.image.proofs.measure.Goals as goal
+
+pub returns : goal.returns
+returns c = c.measure_after.ensures _ c.limits_check.ensures
