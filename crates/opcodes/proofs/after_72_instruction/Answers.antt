@@ -27,4 +27,4 @@ pub returns-in_default : goal.returns-in_default
 unfolding in_row on_page
 returns-in_default c = let w = word (high c.args.ab) (low c.args.ab) in
     last_row 10 (two 2 (WordAlu Subw Y w) 9 (WordAlu Addw Y w)) (after72_page (high c.args.ab) (low c.args.ab) c.args.c)
-    (5 ∷ 1 ∷ 0 ∷ []) refl c.args.op _ c.ranges.op.fits c.in_default.rest (rw (word_high_low c.args.ab) c.row_72_a.ensures)
+    (5 ∷ 1 ∷ 0 ∷ []) refl c.args.op _ c.ranges.op.fits c.in_default.in_default-own.rest (rw (word_high_low c.args.ab) c.row_72_a.ensures)

@@ -50,4 +50,4 @@ returns-in-14 c = rw (c.in-14.is, ← c.high.ensures) c.short_offset_row.ensures
 pub returns-in_default : goal.returns-in_default
 unfolding in_row on_page
 returns-in_default c = last_row 15 (indexed_row (Indexed Y Zero)) (after90_page (high c.args.ab) (low c.args.ab)) (14 ∷ 13 ∷ 12 ∷ 10 ∷ 9 ∷ 8 ∷ 5 ∷ 4 ∷ 1 ∷ []) refl
-    c.args.op _ c.ranges.op.fits c.in_default.rest c.no_offset_row.ensures
+    c.args.op _ c.ranges.op.fits c.in_default.in_default-own.rest c.no_offset_row.ensures

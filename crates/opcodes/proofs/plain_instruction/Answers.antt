@@ -71,5 +71,5 @@ returns-in-14 c = rw (c.in-14.is, ← c.high-a.ensures) c.short_offset_row.ensur
 pub returns-in_default : goal.returns-in_default
 unfolding in_row on_page
 returns-in_default c = last_row 15 (indexed_row (Indexed X Zero)) (plain_page (high c.args.ab) (low c.args.ab) (high c.args.cd) (low c.args.cd))
-    (14 ∷ 13 ∷ 12 ∷ 11 ∷ 10 ∷ 9 ∷ 8 ∷ 7 ∷ 6 ∷ 5 ∷ 4 ∷ 3 ∷ 2 ∷ 1 ∷ []) refl c.args.op _ c.ranges.op.fits c.in_default.rest
+    (14 ∷ 13 ∷ 12 ∷ 11 ∷ 10 ∷ 9 ∷ 8 ∷ 7 ∷ 6 ∷ 5 ∷ 4 ∷ 3 ∷ 2 ∷ 1 ∷ []) refl c.args.op _ c.ranges.op.fits c.in_default.in_default-own.rest
     c.no_offset_row.ensures

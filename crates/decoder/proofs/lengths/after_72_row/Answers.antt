@@ -27,4 +27,4 @@ returns-in-10 c = rw c.in-10.is
 pub returns-in_default : goal.returns-in_default
 unfolding row_lengths
 returns-in_default c = rest 15 (10 ∷ 5 ∷ 1 ∷ 0 ∷ []) (λ k. 0) (row_lengths After72) refl (c.args.op / 16)
-    (omega arith) c.in_default.rest
+    (omega arith) c.in_default.in_default-own.rest

@@ -51,4 +51,4 @@ returns-in-15 c = rw c.in-15.is
 pub returns-in_default : goal.returns-in_default
 unfolding row_lengths
 returns-in_default c = rest 15 (15 ∷ 14 ∷ 13 ∷ 12 ∷ 10 ∷ 9 ∷ 8 ∷ 5 ∷ 4 ∷ 1 ∷ []) (λ k. 0) (row_lengths After90) refl (c.args.op / 16)
-    (omega arith) c.in_default.rest
+    (omega arith) c.in_default.in_default-own.rest

@@ -75,4 +75,4 @@ returns-in-15 c = rw c.in-15.is
 pub returns-in_default : goal.returns-in_default
 unfolding row_lengths
 returns-in_default c = rest 15 (15 ∷ 14 ∷ 13 ∷ 12 ∷ 11 ∷ 10 ∷ 9 ∷ 8 ∷ 7 ∷ 6 ∷ 5 ∷ 4 ∷ 3 ∷ 2 ∷ 1 ∷ 0 ∷ []) (λ k. 1) (row_lengths Plain) refl (c.args.op / 16)
-    (omega arith) c.in_default.rest
+    (omega arith) c.in_default.in_default-own.rest

@@ -75,4 +75,4 @@ returns-in-15 c x = rw c.in-15.is
 pub returns-in_default : goal.returns-in_default
 unfolding in_row
 returns-in_default c x = otherwise (15 ∷ 14 ∷ 13 ∷ 12 ∷ 11 ∷ 10 ∷ 9 ∷ 8 ∷ 7 ∷ 6 ∷ 5 ∷ 4 ∷ 3 ∷ 2 ∷ 1 ∷ 0 ∷ []) (modify_row x Blank Blank Blank) (Modify Neg x) refl
-    c.args.op c.in_default.rest
+    c.args.op c.in_default.in_default-own.rest

@@ -15,4 +15,4 @@ returns-in-2 c = rw c.in-2.is
 
 pub returns-in_default : goal.returns-in_default
 unfolding in_row
-returns-in_default c = otherwise (2 ∷ []) (two 2 (WordAlu Subw Y c.args.ab) 9 (WordAlu Addw Y c.args.ab)) (WordAlu Addw Y c.args.ab) refl c.args.op c.in_default.rest
+returns-in_default c = otherwise (2 ∷ []) (two 2 (WordAlu Subw Y c.args.ab) 9 (WordAlu Addw Y c.args.ab)) (WordAlu Addw Y c.args.ab) refl c.args.op c.in_default.in_default-own.rest

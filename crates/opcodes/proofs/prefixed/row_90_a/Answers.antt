@@ -17,4 +17,4 @@ returns-in-3 c = rw c.in-3.is
 pub returns-in_default : goal.returns-in_default
 unfolding in_row
 returns-in_default c = otherwise (3 ∷ []) (two 3 (WordAlu Cpw Y c.args.ab) 14 (LoadWord Y (ImmediateWord c.args.ab))) (LoadWord Y (ImmediateWord c.args.ab)) refl c.args.op
-    c.in_default.rest
+    c.in_default.in_default-own.rest

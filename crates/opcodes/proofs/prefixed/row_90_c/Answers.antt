@@ -16,4 +16,4 @@ returns-in-14 c = rw c.in-14.is
 pub returns-in_default : goal.returns-in_default
 unfolding in_row
 returns-in_default c = otherwise (14 ∷ []) (two 14 (LoadWord Y (Long c.args.ab)) 15 (StoreWord Y (Long c.args.ab))) (StoreWord Y (Long c.args.ab)) refl c.args.op
-    c.in_default.rest
+    c.in_default.in_default-own.rest

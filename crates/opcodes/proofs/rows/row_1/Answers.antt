@@ -34,4 +34,4 @@ returns-in-15 c = rw c.in-15.is
 pub returns-in_default : goal.returns-in_default
 unfolding in_row
 returns-in_default c = c.alu_of.ensures (Sp c.args.a) ∙ as_in (indexed_row (Sp c.args.a)) (row1 c.args.a c.args.ab) (15 ∷ 14 ∷ 13 ∷ 12 ∷ 7 ∷ 6 ∷ []) refl c.args.op _
-    c.in_default.rest
+    c.in_default.in_default-own.rest

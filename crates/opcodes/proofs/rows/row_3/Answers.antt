@@ -22,4 +22,4 @@ returns-in-11 c = rw c.in-11.is
 pub returns-in_default : goal.returns-in_default
 unfolding in_row
 returns-in_default c = c.modify_of.ensures (Short c.args.a) ∙ as_in (modify_row (Short c.args.a) Blank Blank Blank) (row3 c.args.a c.args.ab c.args.bc) (11 ∷ 5 ∷ 2 ∷ [])
-    refl c.args.op _ c.in_default.rest
+    refl c.args.op _ c.in_default.in_default-own.rest

@@ -22,4 +22,4 @@ returns-in-11 c = rw c.in-11.is
 pub returns-in_default : goal.returns-in_default
 unfolding in_row
 returns-in_default c = c.modify_of.ensures Accumulator ∙ as_in (modify_row Accumulator Blank Blank Blank) (row4 c.args.a c.args.b) (11 ∷ 5 ∷ 2 ∷ []) refl c.args.op _
-    c.in_default.rest
+    c.in_default.in_default-own.rest

@@ -26,4 +26,4 @@ returns-in-11 c = rw c.in-11.is
 pub returns-in_default : goal.returns-in_default
 unfolding in_row
 returns-in_default c = c.register_row_5.ensures ∙ as_in (register_row5 X Blank Blank Blank Blank) (row5 c.args.a c.args.ab c.args.cd) (11 ∷ 5 ∷ 2 ∷ 1 ∷ []) refl c.args.op
-    _ c.in_default.rest
+    _ c.in_default.in_default-own.rest

@@ -26,4 +26,4 @@ returns-in-12 c = rw c.in-12.is
 pub returns-in_default : goal.returns-in_default
 unfolding in_row
 returns-in_default c = c.register_row_8.ensures ∙ as_in (register_row8 X Blank Blank Blank Blank) row8 (12 ∷ 8 ∷ 4 ∷ 1 ∷ []) refl c.args.op _
-    c.in_default.rest
+    c.in_default.in_default-own.rest

@@ -26,4 +26,4 @@ returns-in-13 c = rw c.in-13.is
 pub returns-in_default : goal.returns-in_default
 unfolding in_row
 returns-in_default c = c.register_row_9.ensures ∙ as_in (register_row9 X Blank Blank Blank Blank) row9 (13 ∷ 12 ∷ 9 ∷ 8 ∷ []) refl c.args.op _
-    c.in_default.rest
+    c.in_default.in_default-own.rest

@@ -22,4 +22,4 @@ returns-in-14 c = rw c.in-14.is
 pub returns-in_default : goal.returns-in_default
 unfolding in_row
 returns-in_default c = c.alu_of.ensures (Immediate c.args.a) ∙ as_in (indexed_row (Immediate c.args.a)) (row_a c.args.a c.args.ab) (14 ∷ 13 ∷ 3 ∷ []) refl c.args.op _
-    c.in_default.rest
+    c.in_default.in_default-own.rest

@@ -13,4 +13,4 @@ returns-in-7 c = rw c.in-7.is
 
 pub returns-in_default : goal.returns-in_default
 unfolding in_row
-returns-in_default c = c.alu_of.ensures (Short c.args.a) ∙ as_in (indexed_row (Short c.args.a)) (row_b c.args.a) (7 ∷ []) refl c.args.op _ c.in_default.rest
+returns-in_default c = c.alu_of.ensures (Short c.args.a) ∙ as_in (indexed_row (Short c.args.a)) (row_b c.args.a) (7 ∷ []) refl c.args.op _ c.in_default.in_default-own.rest

@@ -26,4 +26,4 @@ returns-in-15 c = rw c.in-15.is
 pub returns-in_default : goal.returns-in_default
 unfolding in_row
 returns-in_default c = c.alu_of.ensures (Long c.args.ab) ∙ as_in (indexed_row (Long c.args.ab)) (row_c c.args.ab) (15 ∷ 14 ∷ 13 ∷ 7 ∷ []) refl c.args.op _
-    c.in_default.rest
+    c.in_default.in_default-own.rest

@@ -18,4 +18,4 @@ returns-in-12 c = rw c.in-12.is
 
 pub returns-in_default : goal.returns-in_default
 unfolding in_row
-returns-in_default c = otherwise (12 ∷ 10 ∷ []) (register_row5 c.args.register Blank Blank Blank Blank) (WordModify Clrw c.args.register) refl c.args.op c.in_default.rest
+returns-in_default c = otherwise (12 ∷ 10 ∷ []) (register_row5 c.args.register Blank Blank Blank Blank) (WordModify Clrw c.args.register) refl c.args.op c.in_default.in_default-own.rest

@@ -13,4 +13,4 @@ returns-in-5 c = rw c.in-5.is
 
 pub returns-in_default : goal.returns-in_default
 unfolding in_row
-returns-in_default c = otherwise (5 ∷ []) (register_row8 c.args.register Blank Blank Blank Blank) (Pushw c.args.register) refl c.args.op c.in_default.rest
+returns-in_default c = otherwise (5 ∷ []) (register_row8 c.args.register Blank Blank Blank Blank) (Pushw c.args.register) refl c.args.op c.in_default.in_default-own.rest

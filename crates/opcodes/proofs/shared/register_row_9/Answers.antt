@@ -27,4 +27,4 @@ returns-in-14 c = rw c.in-14.is
 pub returns-in_default : goal.returns-in_default
 unfolding in_row
 returns-in_default c = otherwise (14 ∷ 7 ∷ 5 ∷ 3 ∷ []) (register_row9 c.args.register Blank Blank Blank Blank) (LoadHalf c.args.register Low) refl c.args.op
-    c.in_default.rest
+    c.in_default.in_default-own.rest
