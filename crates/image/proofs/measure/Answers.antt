@@ -3,4 +3,8 @@ use Rattle.std.proofs.Common.{rules}
 use Rattle.image.proofs.measure.Goals as goal
 
 pub returns : goal.returns
-returns c = c.measure_after.ensures _ c.limits_check.ensures
+returns c =
+    let told = c.measure_after.ensures _ c.limits_check.ensures in record {
+      validated_value = told.0;
+      begins = told.1;
+    }

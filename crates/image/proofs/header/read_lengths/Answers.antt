@@ -6,6 +6,7 @@ use Rattle.image.specs.Lengths.{after_all, BeginsTo16}
 use Rattle.image.proofs.Measuring.{lengths_count}
 use Rattle.image.proofs.Feeding.{cut_whole, state_next, state_sum, gathered_size, gathered}
 use Rattle.image.proofs.header.read_lengths.Goals as goal
+use Rattle.image.proofs.header.read_lengths.Goals.{After-feed-state}
 
 pub loop-k-init : goal.loop-k-init
 unfolding after_all
@@ -19,7 +20,7 @@ small c =
 pub loop-k-preserved : goal.loop-k-preserved
 loop-k-preserved c =
     let image = c.args.image.now in
-    let next = c.feed-state.ensures ∙ cut_whole _ (small c) in
+    let next = c.feed-state.ensures ∙ cut_whole _ (small (goal.at.loop-k-preserved c).After-feed-state) in
     let below : c.loop-k.k < count_of image = rw c.count_of-count.ensures at c.loop-k-test.true in (
       omega arith,
       rw c.gather.ensures (gathered_size image c.loop-k.k c.loop-k.begins _ c.loop-k.invariant.1),
