@@ -30,6 +30,7 @@ module _ {A : Type 0} {x : A} where
   unfolding flat_map
   in_some f (o ∷ l) i =
       ⊎_elim (λ j. (o, head, j)) (λ j. let k = in_some f l j in (k.0, tail k.1, k.2)) (in_either (f o) (flat_map f l) i)
+  in_some f [] i = elim i [ ]
 
   some_in : (f : ℕ → List A) {o : ℕ} {l : List ℕ} → In o l → In x (f o) → In x (flat_map f l)
   unfolding flat_map
@@ -38,6 +39,9 @@ module _ {A : Type 0} {x : A} where
 
 located : {e : Located} (o : ℕ) (d : Decoded) → In e (located_at o d) → (e.offset ≡ o) × (d ≡ Found e.instruction e.size)
 located o (Found i n) head = (refl, refl)
+located {e = e} o (Found i n) (tail x4) = elim x4 [ ]
+located {e = e} o Outside x'' = elim x'' [ ]
+located {e = e} o Truncated x3 = elim x3 [ ]
 
 found_located : {d : Decoded} {e : Located} → d ≡ Found e.instruction e.size → In e (located_at e.offset d)
 found_located f = rw f head

@@ -1,4 +1,3 @@
-pub mod Allowed
 pub mod Sets
 pub mod Tables
 pub mod Parts

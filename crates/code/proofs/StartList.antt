@@ -81,6 +81,7 @@ module _ (image : List ℕ) (r : ℕ) where
   start_on (last end) rest s head = s
   start_on (more f some inside) rest s head = s
   start_on (more f some inside) rest s (tail i) = rest _ (follows s f inside) i
+  start_on {fuel = fuel} {o = o} {k = k} (last end) rest s (tail i) = elim i [ ]
 
   starts_listed : (fuel o k : ℕ) → Start image r o → In k (starts_from fuel image r o) → Start image r k
   starts_listed zero o k s i = in_none (no_fuel o) i
@@ -107,6 +108,7 @@ module _ (image : List ℕ) (r : ℕ) where
         let same : m ≡ n = (same_found g f).1 in
         rw same (tail (front_listed fuel (p + n) (omega arith)))
     next_on {fuel} {o} (more {n = m} g some below) enough rest (tail k) = tail (rest (o + m) (omega arith) k)
+    next_on {fuel = fuel} {o = o} (last end) enough rest (tail k) = elim k [ ]
 
     next_listed : (fuel o : ℕ) → end_of image r ≤ o + fuel → In p (starts_from fuel image r o) → In (p + n) (starts_from fuel image r o)
     next_listed zero o enough k = in_none (no_fuel o) k

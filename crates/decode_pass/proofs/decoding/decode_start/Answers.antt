@@ -24,8 +24,8 @@ answer c image given =
 pub returns-in_default : goal.returns-in_default
 returns-in_default c =
     let number = c.refused_start.ensures ∙ c.decoding_number.ensures in record {
-      at_lt_next = λ none. absurd (omega (arith, number_some c.decode_at-d.result c.in_default.keys2 number));
-      by_index = λ image given start. start_undecoded start _ (answer c image given) c.in_default.keys2 number;
+      at_lt_next = λ none. absurd (omega (arith, number_some c.decode_at-d.result c.in_default.in_default-own.keys2 number));
+      by_index = λ image given start. start_undecoded start _ (answer c image given) c.in_default.in_default-own.keys2 number;
     }
 
 -- an instruction is found, and ends at the routine's end or before

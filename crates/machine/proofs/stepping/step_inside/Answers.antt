@@ -13,7 +13,7 @@ pub returns-in_default : goal.returns-in_default
 returns-in_default c = record {
   image_value = rw (
     ap (decoded_step c.args.image.now c.args.limits c.args.registers c.args.memory.now) (sym c.fetch-decoded.ensures) ∙
-        undecoded c.args.image.now c.args.limits c.args.registers c.args.memory.now c.fetch-decoded.result c.in_default.keys2,
+        undecoded c.args.image.now c.args.limits c.args.registers c.args.memory.now c.fetch-decoded.result c.in_default.in_default-own.keys2,
     c.without_cycles.ensures,
     c.answer.ensures,
     c.decoding_trap.ensures,

@@ -5,7 +5,7 @@ use Rattle.records.proofs.recording.record_at.Goals as goal
 
 pub returns-in_default : goal.returns-in_default
 returns-in_default c rules =
-    by_none c.args.registers c.args.memory.now _ _ _ (c.fetch-decoded.ensures rules) c.in_default.keys2 (c.without_bytes.ensures c.args.memory.now)
+    by_none c.args.registers c.args.memory.now _ _ _ (c.fetch-decoded.ensures rules) c.in_default.in_default-own.keys2 (c.without_bytes.ensures c.args.memory.now)
 
 pub returns : goal.returns
 returns c rules =

@@ -24,7 +24,7 @@ answer c =
     ap (λ n. decoded_at c.args.image.now n c.args.at) (size_is c)
 
 pub returns-in_default : goal.returns-in_default
-returns-in_default c = call_none _ _ _ _ _ _ (answer c) c.in_default.keys2
+returns-in_default c = call_none _ _ _ _ _ _ (answer c) c.in_default.in_default-own.keys2
 
 pub overflow_add-at : goal.overflow_add-at
 overflow_add-at c = omega (arith, (c.decode_at-d.ensures.n_nonzero _ _ c.in-Found.is).1, size_is c, c.requires.0.code)

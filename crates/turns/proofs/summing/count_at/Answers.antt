@@ -20,7 +20,7 @@ answer c image given =
 pub returns-in_default : goal.returns-in_default
 returns-in_default c = record {
   at_lt_next = (c.requires.0, omega arith, omega arith);
-  by_index = λ image before given cells. count_none _ (answer c image given) c.in_default.keys2 given.routine.end_is;
+  by_index = λ image before given cells. count_none _ (answer c image given) c.in_default.in_default-own.keys2 given.routine.end_is;
 }
 
 -- an instruction ends at the routine's end or before
