@@ -28,7 +28,7 @@ module _ {image : List ℕ} {r : ℕ} {At At' : ℕ → ℕ → Type 0} (f : (to
       }
 
 -- what an instruction has a routine use goes by the needs of earlier routines alone
-use_map : {image : List ℕ} {need need' : ℕ → ℕ} {r next depth v : ℕ} {e : Effect} → ((j : ℕ) → j < r → need j ≡ need' j) →
+use_map : {image : List ℕ} {need need' : ℕ → ℕ} {r next depth : ℕ} {e : Effect} {v : ℕ} → ((j : ℕ) → j < r → need j ≡ need' j) →
     InstructionUse image need r next depth e v → InstructionUse image need' r next depth e v
 use_map h before = before
 use_map h behind = behind

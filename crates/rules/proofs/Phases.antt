@@ -32,3 +32,4 @@ one_first (phase ∷ rest) one (here a) (here b) = one_lowest one.0 a b
 one_first (phase ∷ rest) one (here a) (later none b) = absurd (none _ _ a.fault)
 one_first (phase ∷ rest) one (later none a) (here b) = absurd (none _ _ b.fault)
 one_first (phase ∷ rest) one (later none a) (later none' b) = one_first rest (one.1 none) a b
+one_first {At = At} [] one {n = n} {o = o} x3 _ = elim x3 [ ]
