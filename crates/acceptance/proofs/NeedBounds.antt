@@ -12,7 +12,7 @@ use Rattle.rules.proofs.Unique.{rules_found}
 use Rattle.acceptance.specs.Passed.{need_in, RoutinePassed}
 use Rattle.acceptance.proofs.AllRoutines.{zeros_at}
 
-use_bound : {image : List ℕ} {limits : Limits} {depth : ℕ → ℕ} {need : ℕ → ℕ} {r o n v : ℕ} {i : Instruction} →
+use_bound : {image : List ℕ} {limits : Limits} {depth : ℕ → ℕ} {need : ℕ → ℕ} {r o n : ℕ} {i : Instruction} {v : ℕ} →
     InstructionRules image limits r (StartAt image depth r) o (depth o) i n → ((k : ℕ) → k < r → need k ≤ 257 * r) →
     InstructionUse image need r (base_of image + (o + n)) (depth o) (effect i) v → v ≤ 257 * (r + 1)
 use_bound rules earlier before = omega (arith, rules.depth_before)

@@ -28,6 +28,7 @@ in_listed {o} (tail {y = s} {rest} i) = by_test (λ t. t ≡ true) (eqb o s) (λ
 pub rising_above : {b o : ℕ} {l : List ℕ} → Rising b l → In o l → b ≤ o
 rising_above (next low rest) head = low
 rising_above (next low rest) (tail i) = omega (arith, rising_above rest i)
+rising_above {o = o} (none {b = b}) x4 = elim x4 [ ]
 
 -- the first of a list at which a check fails: it passes at every lower one
 pub record FirstIn (check : ℕ → ℕ) (l : List ℕ) (found : Refusing) : Type 0 where
@@ -47,6 +48,7 @@ module _ (check : ℕ → ℕ) where
   pub first_none : (l : List ℕ) → (first_at check l).number ≡ 0 → {o : ℕ} → In o l → check o ≡ 0
   first_none (s ∷ rest) e head = (front s rest e).0
   first_none (s ∷ rest) e (tail i) = first_none rest (front s rest e).1 i
+  first_none [] e {o = o} x'' = elim x'' [ ]
 
   -- one more in front, at which it passes
   further : {s : ℕ} {rest : List ℕ} {found : Refusing} → check s ≡ 0 → FirstIn check rest found → FirstIn check (s ∷ rest) found
