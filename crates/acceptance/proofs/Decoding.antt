@@ -13,12 +13,12 @@ use Rattle.stm8.specs.declared.Instruction.{Instruction}
 use Rattle.stm8.specs.declared.Decoded.{Decoded}
 use Rattle.stm8.specs.declared.Decoded.TheVariants.{Found, Outside, Truncated}
 use Rattle.image.specs.declared.Limits.{Limits}
-use Rattle.image.specs.Image.{start_of, end_of}
-use Rattle.code.specs.Depth.{falls}
+use Rattle.image.specs.Image.{base_of, start_of, end_of}
+use Rattle.code.specs.Depth.{popped, pushed, falls}
 use Rattle.code.specs.Code.{instruction_at, Start}
 use Rattle.rules.specs.Refusal.{CodeFault, outside, cut, off, Lowest}
 use Rattle.code.proofs.Starts.{same_found, start_low, start_high}
-use Rattle.acceptance.specs.Cells.{Stored, Filled}
+use Rattle.acceptance.specs.Cells.{fall_cell, jump_cell, store_cell, call_cell, Stored, Filled}
 use Rattle.acceptance.specs.Starts.{code_number, cell_at, cells_of}
 use Rattle.acceptance.specs.Check.{first_at}
 use Rattle.acceptance.proofs.Offsets.{listed_in, in_listed, first_none, first_found}
@@ -105,12 +105,12 @@ module _ (image : List ℕ) (r : ℕ) where
             size = d.size;
             found = d.found;
             inside = d.inside;
-            fall = ap (cell_at _ o) d.found;
-            jump = ap (cell_at _ o) d.found;
-            pop = ap (cell_at _ o) d.found;
-            push = ap (cell_at _ o) d.found;
-            store = ap (cell_at _ o) d.found;
-            call = ap (cell_at _ o) d.found;
+            fall = ap (cell_at (λ e n. fall_cell e.flow n) o) d.found;
+            jump = ap (cell_at (λ e n. jump_cell (base_of image) (start_of image r) (end_of image r) n e.flow) o) d.found;
+            pop = ap (cell_at (λ e n. popped e) o) d.found;
+            push = ap (cell_at (λ e n. pushed e) o) d.found;
+            store = ap (cell_at (λ e n. store_cell limits e.place) o) d.found;
+            call = ap (cell_at (λ e n. call_cell image r n e.flow) o) d.found;
           }
 
       flag_listed : (b : Bool) → 1 ≤ flag b → b ≡ true
