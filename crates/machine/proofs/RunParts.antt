@@ -1,12 +1,12 @@
 -- A run in two parts is one run: where the first is spent, a run from there makes the rest of its steps.
 use Prim.Native.Nat.{ℕ, zero, suc, ◌+◌}
 use mathlib.Core.Path.{◌≡◌, refl, sym, ap, ◌∙◌}
+use mathlib.Core.Bool.{Bool, true, false, cond}
 use mathlib.Core.List.{List}
 use native.Mathlib.Nat.{zero-add, suc-add}
 use native.Mathlib.Omega.{arith}
 use lib.Dec.{eqb}
 use borrow.Author.Tests.{eqb-true, eqb-false}
-use Rattle.numbers.proofs.Checking.{by_test}
 use Rattle.image.specs.declared.Limits.{Limits}
 use Rattle.machine.specs.Step.{step_refusal, stepped}
 use Rattle.machine.specs.Run.{ended, more_steps, after_step, no_steps_left, ran, in_parts}
@@ -30,15 +30,17 @@ module _ (image : List ℕ) (limits : Limits) (b : ℕ) where
   abbrev With : Ran × List ℕ → Ran × List ℕ
   With first = in_parts first.0.answer first (ran b image limits first.0.registers first.1)
 
+  out_by : (regs : Registers) (memory : List ℕ) (valid at_zero : Bool) → eqb (step_refusal image limits memory) 0 ≡ valid → eqb regs.pc 0 ≡ at_zero →
+      ran b image limits regs memory ≡
+      With (cond valid (ended (cond at_zero Finished Spent) regs memory) (ended (Refused (step_refusal image limits memory)) regs memory))
+  out_by regs memory true true valid at_zero = finished_at_once b image limits regs memory (eqb-true _ _ valid) (eqb-true _ _ at_zero)
+  out_by regs memory true false valid on = sym (after_none (ran b image limits regs memory))
+  out_by regs memory false at_zero refused other =
+      refused_at_once b image limits regs memory (step_refusal image limits memory) (refl, eqb-false _ _ refused)
+
   out_then : (regs : Registers) (memory : List ℕ) → ran b image limits regs memory ≡ With (no_steps_left image limits regs memory)
   unfolding no_steps_left
-  out_then regs memory =
-      let whole = ran b image limits regs memory in
-      by_test (λ (r : Ran × List ℕ). whole ≡ With r) (eqb (step_refusal image limits memory) 0)
-      (λ valid. by_test (λ (o : RunAnswer). whole ≡ With (ended o regs memory)) (eqb regs.pc 0)
-      (λ at_zero. finished_at_once b image limits regs memory (eqb-true _ _ valid) (eqb-true _ _ at_zero))
-      (λ on. sym (after_none whole)))
-      (λ refused. refused_at_once b image limits regs memory _ (refl, eqb-false _ _ refused))
+  out_then regs memory = out_by regs memory (eqb (step_refusal image limits memory) 0) (eqb regs.pc 0) refl refl
 
   step_then : (regs : Registers) (memory : List ℕ) (answer : StepAnswer) (first whole : Ran × List ℕ) → whole ≡ With first →
       after_step answer regs memory whole ≡ With (after_step answer regs memory first)

@@ -75,10 +75,10 @@ module _ (image : List ℕ) (limits : Limits) (regs : Registers) (memory : List 
 
 -- what gives no instruction
 pub undecoded : (image : List ℕ) (limits : Limits) (regs : Registers) (memory : List ℕ) (d : Decoded) →
-    types.Run.OneOf (1 ∷ 2 ∷ []) (denote.Enum.Declared.tag_of Rattle.stm8.specs.contracts.Decoded.the_type d) →
+    ((i : Instruction) (n : ℕ) → d ≡ Found i n → ⊥) →
     decoded_step image limits regs memory d ≡ result (Trap (decoding_trap d)) regs memory
 unfolding decoded_step
-undecoded image limits regs memory (Found i n) h = absurd (⊎_elim (λ e. omega arith) (λ e. omega arith) h)
+undecoded image limits regs memory (Found i n) h = absurd (h i n refl)
 undecoded image limits regs memory Outside h = refl
 undecoded image limits regs memory Truncated h = refl
 

@@ -14,31 +14,28 @@ use Rattle.machine.proofs.StepLaws.{same_refusal}
 use Rattle.machine.proofs.RunLaws.{after_none, out_finished, out_spent, run_on, run_finished, run_trapped, run_refused, ends}
 use Rattle.machine.proofs.CycleLaws.{at_most, none_left, cycles_on, cycles_finished, cycles_trapped, cycles_refused}
 use Rattle.machine.proofs.running.run_valid.Goals as goal
+use Rattle.machine.proofs.running.run_valid.Goals.{then-left-eq0+then-registers-eq0, then-left-eq0+else-registers-eq0, else-left-eq0+in-Finished, else-left-eq0+in-Trap, else-left-eq0+in-Refused}
 
 pub loop-left-init : goal.loop-left-init
 loop-left-init c =
     let e : c.args.budget - c.args.budget ≡ 0 = omega arith in
     (omega arith, refl, rw e (after_none (ran c.args.budget c.args.image.now c.args.limits c.args.given c.args.memory.now)), zero-add _, omega arith)
 
--- the cycles of the step, which is made
-counted : (c : In-Made) →
-    c.step_valid-timed.result.cycles ≡ cycles_at c.args.image.now c.loop-left.registers c.loop-left.memory
-counted c = c.step_valid-timed.ensures.cycles_value ∙ rw c.in-Made.is
-
 pub overflow_add-cycles : goal.overflow_add-cycles
 overflow_add-cycles c =
-    omega (arith, counted c, at_most c.args.image.now c.loop-left.registers c.loop-left.memory, c.loop-left.invariant.4, c.ranges.budget.fits)
+    let made : c.step_valid-timed.result.cycles ≡ cycles_at c.args.image.now c.loop-left.registers c.loop-left.memory = c.step_valid-timed.ensures.cycles_value ∙ rw c.in-Made.is in
+    omega (arith, made, at_most c.args.image.now c.loop-left.registers c.loop-left.memory, c.loop-left.invariant.4, c.ranges.budget.fits)
 
 pub loop-left-preserved : goal.loop-left-preserved
 loop-left-preserved c =
     let valid = same_refusal c.args.image.now c.args.limits c.args.memory.now c.loop-left.memory c.loop-left.invariant.1 ∙ c.requires.passes in
     let h : c.loop-left.left ≡ c.loop-left.left - 1 + 1 = omega arith in
     let e : c.args.budget - (c.loop-left.left - 1) ≡ c.args.budget - c.loop-left.left + 1 = omega arith in
-    let count = counted c in
+    let count : c.step_valid-timed.result.cycles ≡ cycles_at c.args.image.now c.loop-left.registers c.loop-left.memory = c.step_valid-timed.ensures.cycles_value ∙ rw c.in-Made.is in
     let rest = cycles_on c.args.image.now c.args.limits c.loop-left.registers c.loop-left.memory valid c.loop-left.left (c.loop-left.left - 1) h c.step_valid-timed.result.stepped _ c.step_valid-timed.ensures.memory_value c.in-Made.is in
     let few = at_most c.args.image.now c.loop-left.registers c.loop-left.memory in (
       omega arith,
-      c.step_valid-timed.auto.1.1.1.1.0 ∙ c.loop-left.invariant.1,
+      c.step_valid-timed.auto.memory ∙ c.loop-left.invariant.1,
       rw e
           (sym
           (run_on c.args.image.now c.args.limits (c.args.budget - c.loop-left.left) c.loop-left.registers c.loop-left.memory valid c.loop-left.left (c.loop-left.left - 1) h c.step_valid-timed.result.stepped _
@@ -48,71 +45,64 @@ loop-left-preserved c =
       omega (arith, count, c.loop-left.invariant.4, few, c.loop-left.invariant.0, c.if-left-eq0.false),
     )
 
-pub shape_of-memory : goal.shape_of-memory
-shape_of-memory c =
-    ⊎_elim (λ w. ap length w.3 ∙ c.loop-left.invariant.1)
-    (⊎_elim (λ w. ap length w.3 ∙ c.loop-left.invariant.1)
-    (⊎_elim (λ w. ap length w.9 ∙ w.2.kept.1.1.1.1.0 ∙ c.loop-left.invariant.1)
-    (⊎_elim (λ w. ap length w.10 ∙ w.2.kept.1.1.1.1.0 ∙ c.loop-left.invariant.1)
-    (λ w. ap length w.10 ∙ w.2.kept.1.1.1.1.0 ∙ c.loop-left.invariant.1))))
-    c.if-left-eq0.branch
-
-pub returns : goal.returns
-returns c =
+pub returns-clause-memory_value : goal.returns-clause-memory_value
+returns-clause-memory_value c =
     let k = c.args.budget - c.loop-left.left in
     let valid : step_refusal c.args.image.now c.args.limits c.loop-left.memory ≡ 0 =
-    same_refusal c.args.image.now c.args.limits c.args.memory.now c.loop-left.memory c.loop-left.invariant.1 ∙ c.requires.passes in
-    -- what is counted so far is the c.loop-left.invariant.3 where no cycles are left
+        same_refusal c.args.image.now c.args.limits c.args.memory.now c.loop-left.memory c.loop-left.invariant.1 ∙ c.requires.passes in
+    elim c.if-left-eq0.branch [
+      then-left-eq0+then-registers-eq0 w ↦
+            ends _ _ c.loop-left.invariant.2
+            (out_finished c.args.image.now c.args.limits k c.loop-left.registers c.loop-left.memory valid c.loop-left.left w.if-left-eq0.true w.if-registers-eq0.true)
+            w.answer-is w.registers-is w.memory-is
+    | then-left-eq0+else-registers-eq0 w ↦
+            ends _ _ c.loop-left.invariant.2
+            (out_spent c.args.image.now c.args.limits k c.loop-left.registers c.loop-left.memory valid c.loop-left.left w.if-left-eq0.true w.if-registers-eq0.false)
+            w.answer-is w.registers-is w.memory-is
+    | else-left-eq0+in-Finished w ↦
+            let h : c.loop-left.left ≡ c.loop-left.left - 1 + 1 = omega (arith, w.if-left-eq0.false) in
+            let s = w.step_valid-timed in
+            ends _ _ c.loop-left.invariant.2
+            (run_finished c.args.image.now c.args.limits k c.loop-left.registers c.loop-left.memory valid c.loop-left.left (c.loop-left.left - 1) h s.result.stepped _ s.ensures.memory_value w.in-Finished.is)
+            w.answer-is w.registers-is w.memory-is
+    | else-left-eq0+in-Trap w ↦
+            let h : c.loop-left.left ≡ c.loop-left.left - 1 + 1 = omega (arith, w.if-left-eq0.false) in
+            let s = w.step_valid-timed in
+            ends _ _ c.loop-left.invariant.2
+            (run_trapped c.args.image.now c.args.limits k c.loop-left.registers c.loop-left.memory valid c.loop-left.left (c.loop-left.left - 1) h s.result.stepped _ s.ensures.memory_value _ w.in-Trap.is)
+            w.answer-is w.registers-is w.memory-is
+    | else-left-eq0+in-Refused w ↦
+            let h : c.loop-left.left ≡ c.loop-left.left - 1 + 1 = omega (arith, w.if-left-eq0.false) in
+            let s = w.step_valid-timed in
+            ends _ _ c.loop-left.invariant.2
+            (run_refused c.args.image.now c.args.limits k c.loop-left.registers c.loop-left.memory valid c.loop-left.left (c.loop-left.left - 1) h s.result.stepped _ s.ensures.memory_value _ w.in-Refused.is)
+            w.answer-is w.registers-is w.memory-is
+    ]
+
+pub returns-clause-cycles_value : goal.returns-clause-cycles_value
+returns-clause-cycles_value c =
+    let valid : step_refusal c.args.image.now c.args.limits c.loop-left.memory ≡ 0 =
+        same_refusal c.args.image.now c.args.limits c.args.memory.now c.loop-left.memory c.loop-left.invariant.1 ∙ c.requires.passes in
+    -- what is counted so far is the whole where no cycles are left
     let all : run_cycles c.loop-left.left c.args.image.now c.args.limits c.loop-left.registers c.loop-left.memory ≡ 0 →
-    c.loop-left.cycles ≡ run_cycles c.args.budget c.args.image.now c.args.limits c.args.given c.args.memory.now =
-    λ none. omega (arith, none, c.loop-left.invariant.3) in
-    ⊎_elim
-    (λ w. (
-      ends _ _ c.loop-left.invariant.2
-          (out_finished c.args.image.now c.args.limits k c.loop-left.registers c.loop-left.memory valid c.loop-left.left w.0.taken w.2.taken)
-          w.5 w.4 w.3,
-      all (none_left c.args.image.now c.args.limits c.loop-left.registers c.loop-left.memory c.loop-left.left w.0.taken),
-    ))
-    (⊎_elim
-    (λ w. (
-      ends _ _ c.loop-left.invariant.2
-          (out_spent c.args.image.now c.args.limits k c.loop-left.registers c.loop-left.memory valid c.loop-left.left w.0.taken w.2.left)
-          w.5 w.4 w.3,
-      all (none_left c.args.image.now c.args.limits c.loop-left.registers c.loop-left.memory c.loop-left.left w.0.taken),
-    ))
-    (⊎_elim
-    (λ w.
-    let h : c.loop-left.left ≡ c.loop-left.left - 1 + 1 = omega (arith, w.0.left) in
-    let s = w.2 in (
-      ends _ _ c.loop-left.invariant.2
-          (run_finished c.args.image.now c.args.limits k c.loop-left.registers c.loop-left.memory valid c.loop-left.left (c.loop-left.left - 1) h s.result.stepped _ s.ensures.0
-          w.8.given.1)
-          w.11 w.10 w.9,
-      all (cycles_finished c.args.image.now c.args.limits c.loop-left.registers c.loop-left.memory valid c.loop-left.left (c.loop-left.left - 1) h s.result.stepped _ s.ensures.0
-          w.8.given.1),
-    ))
-    (⊎_elim
-    (λ w.
-    let h : c.loop-left.left ≡ c.loop-left.left - 1 + 1 = omega (arith, w.0.left) in
-    let s = w.2 in (
-      ends _ _ c.loop-left.invariant.2
-          (run_trapped c.args.image.now c.args.limits k c.loop-left.registers c.loop-left.memory valid c.loop-left.left (c.loop-left.left - 1) h s.result.stepped _ s.ensures.0 _
-          w.8.given.1)
-          w.12 w.11 w.10,
-      all (cycles_trapped c.args.image.now c.args.limits c.loop-left.registers c.loop-left.memory valid c.loop-left.left (c.loop-left.left - 1) h s.result.stepped _ s.ensures.0 _
-          w.8.given.1),
-    ))
-    (λ w.
-    let h : c.loop-left.left ≡ c.loop-left.left - 1 + 1 = omega (arith, w.0.left) in
-    let s = w.2 in (
-      ends _ _ c.loop-left.invariant.2
-          (run_refused c.args.image.now c.args.limits k c.loop-left.registers c.loop-left.memory valid c.loop-left.left (c.loop-left.left - 1) h s.result.stepped _ s.ensures.0 _
-          w.8.given.1)
-          w.12 w.11 w.10,
-      all (cycles_refused c.args.image.now c.args.limits c.loop-left.registers c.loop-left.memory valid c.loop-left.left (c.loop-left.left - 1) h s.result.stepped _ s.ensures.0 _
-          w.8.given.1),
-    )))))
-    c.if-left-eq0.branch
+        c.loop-left.cycles ≡ run_cycles c.args.budget c.args.image.now c.args.limits c.args.given c.args.memory.now =
+        λ none. omega (arith, none, c.loop-left.invariant.3) in
+    elim c.if-left-eq0.branch [
+      then-left-eq0+then-registers-eq0 w ↦ all (none_left c.args.image.now c.args.limits c.loop-left.registers c.loop-left.memory c.loop-left.left w.if-left-eq0.true)
+    | then-left-eq0+else-registers-eq0 w ↦ all (none_left c.args.image.now c.args.limits c.loop-left.registers c.loop-left.memory c.loop-left.left w.if-left-eq0.true)
+    | else-left-eq0+in-Finished w ↦
+            let h : c.loop-left.left ≡ c.loop-left.left - 1 + 1 = omega (arith, w.if-left-eq0.false) in
+            let s = w.step_valid-timed in
+            all (cycles_finished c.args.image.now c.args.limits c.loop-left.registers c.loop-left.memory valid c.loop-left.left (c.loop-left.left - 1) h s.result.stepped _ s.ensures.memory_value w.in-Finished.is)
+    | else-left-eq0+in-Trap w ↦
+            let h : c.loop-left.left ≡ c.loop-left.left - 1 + 1 = omega (arith, w.if-left-eq0.false) in
+            let s = w.step_valid-timed in
+            all (cycles_trapped c.args.image.now c.args.limits c.loop-left.registers c.loop-left.memory valid c.loop-left.left (c.loop-left.left - 1) h s.result.stepped _ s.ensures.memory_value _ w.in-Trap.is)
+    | else-left-eq0+in-Refused w ↦
+            let h : c.loop-left.left ≡ c.loop-left.left - 1 + 1 = omega (arith, w.if-left-eq0.false) in
+            let s = w.step_valid-timed in
+            all (cycles_refused c.args.image.now c.args.limits c.loop-left.registers c.loop-left.memory valid c.loop-left.left (c.loop-left.left - 1) h s.result.stepped _ s.ensures.memory_value _ w.in-Refused.is)
+    ]
 
 pub overflow_sub-ran : goal.overflow_sub-ran
 overflow_sub-ran c = omega (arith, c.loop-left.invariant.0)

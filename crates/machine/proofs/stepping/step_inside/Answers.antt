@@ -13,7 +13,7 @@ pub returns-in_default : goal.returns-in_default
 returns-in_default c = record {
   image_value = rw (
     ap (decoded_step c.args.image.now c.args.limits c.args.registers c.args.memory.now) (sym c.fetch-decoded.ensures) ∙
-        undecoded c.args.image.now c.args.limits c.args.registers c.args.memory.now c.fetch-decoded.result c.in_default.in_default-own.keys2,
+        undecoded c.args.image.now c.args.limits c.args.registers c.args.memory.now c.fetch-decoded.result c.in_default.not-Found,
     c.without_cycles.ensures,
     c.answer.ensures,
     c.decoding_trap.ensures,
@@ -21,28 +21,20 @@ returns-in_default c = record {
   cycles_value = rw (c.without_cycles.ensures, c.answer.ensures);
 }
 
--- an instruction has at most five bytes
-few : (c : After-step-arg-1) → c.in-Found.n ≤ 5
-few c =
-    found_short c.args.image.now _ _ (sym c.fetch-decoded.ensures ∙ c.in-Found.is)
-
-next : (c : After-struct_known-1) →
-    c.args.registers.pc + c.in-Found.n < 0x1000000
-next c =
-    next_small c.args.image.now c.args.layout c.requires.valid c.args.registers.pc c.requires.inside _ (few c)
-
 pub returns : goal.returns
 returns c =
-    let stands = sym c.fetch-decoded.ensures ∙ c.in-Found.is in record {
+    let stands = sym c.fetch-decoded.ensures ∙ c.in-Found.is in
+    -- an instruction has at most five bytes
+    let next = next_small c.args.image.now c.args.layout c.requires.valid c.args.registers.pc c.requires.inside _ (found_short c.args.image.now _ _ stands) in record {
       image_value = ap (decoded_step c.args.image.now c.args.limits c.args.registers c.args.memory.now) stands ∙
           found c.args.image.now c.args.limits c.args.registers c.args.memory.now _ _ ∙
-          c.step.ensures.i_value (next c) c.requires.stack;
+          c.step.ensures.i_value next c.requires.stack;
       cycles_value = rw (at_found c.args.image.now c.args.registers c.args.memory.now _ _ stands)
-          (c.step.ensures.cycles_value (next c) c.requires.stack);
+          (c.step.ensures.cycles_value next c.requires.stack);
     }
 
 pub overflow_cast-n : goal.overflow_cast-n
-overflow_cast-n c = omega (arith, few c)
+overflow_cast-n c = omega (arith, found_short c.args.image.now _ _ (sym c.fetch-decoded.ensures ∙ c.in-Found.is))
 
 pub overflow_add-registers : goal.overflow_add-registers
-overflow_add-registers c = omega (arith, next c)
+overflow_add-registers c = omega (arith, next_small c.args.image.now c.args.layout c.requires.valid c.args.registers.pc c.requires.inside _ (found_short c.args.image.now _ _ (sym c.fetch-decoded.ensures ∙ c.in-Found.is)))

@@ -1,4 +1,5 @@
 -- `machine::stepping::step_valid` meets its contract, by the ways through a step.
+use Prim.Native.Nat.{ℕ}
 use mathlib.Core.Path.{◌≡◌, sym, ◌∙◌}
 use borrow.Author.Tests.{eq-eqb, ne_eqb}
 use borrow.Author.Rules.{rules}
@@ -10,15 +11,8 @@ use Rattle.machine.proofs.StepLaws.{finished, trapped_early, decodes, pc_trap_is
 use Rattle.machine.proofs.stepping.step_valid.Goals as goal
 
 -- the trap that was found is 21, or 22 of PC
-trap_is : (c : After-first-trap) →
-    c.first-trap.result ≡ first (sp_trap c.args.limits c.args.registers.sp) (pc_trap c.args.image.now c.args.registers.pc)
-trap_is c =
-    rw (
-      c.first-trap.ensures,
-      c.pc_trap.ensures,
-      c.sp_trap.ensures,
-      pc_trap_is c.args.image.now c.args.layout c.requires.is c.args.registers.pc,
-    )
+trap_is : {outside inside x y z trap : ℕ} → trap ≡ first outside inside → inside ≡ y → outside ≡ x → y ≡ z → trap ≡ first x z
+trap_is found pc sp at = rw (found, pc, sp, at)
 
 pub returns-then-pc-eq0 : goal.returns-then-pc-eq0
 returns-then-pc-eq0 c = record {
@@ -33,7 +27,7 @@ returns-then-pc-eq0 c = record {
 pub returns-then-trap-ne0 : goal.returns-then-trap-ne0
 returns-then-trap-ne0 c = record {
   memory_value = rw (
-    trapped_early c.args.image.now c.args.limits c.args.registers c.args.memory.now (ne_eqb _ _ c.if-pc-eq0.false) _ (trap_is c)
+    trapped_early c.args.image.now c.args.limits c.args.registers c.args.memory.now (ne_eqb _ _ c.if-pc-eq0.false) _ (trap_is c.first-trap.ensures c.pc_trap.ensures c.sp_trap.ensures (pc_trap_is c.args.image.now c.args.layout c.requires.valid.is c.args.registers.pc))
         (ne_eqb _ _ c.if-trap-ne0.true),
     c.without_cycles-then-trap-ne0.ensures,
     c.answer-then-trap-ne0.ensures,
@@ -43,12 +37,12 @@ returns-then-trap-ne0 c = record {
 
 pub step_inside-requires : goal.step_inside-requires
 step_inside-requires c =
-    let none = first_zero _ _ (sym (trap_is c) ∙ c.if-trap-ne0.false) in
-    (c.requires, none)
+    let none = first_zero _ _ (sym (trap_is c.first-trap.ensures c.pc_trap.ensures c.sp_trap.ensures (pc_trap_is c.args.image.now c.args.layout c.requires.valid.is c.args.registers.pc)) ∙ c.if-trap-ne0.false) in
+    record { valid = c.requires.valid; stack = none.0; inside = none.1 }
 
 pub returns : goal.returns
 returns c = record {
-  memory_value = decodes c.args.image.now c.args.limits c.args.registers c.args.memory.now (ne_eqb _ _ c.if-pc-eq0.false) _ (trap_is c) (eq-eqb _ _ c.if-trap-ne0.false) ∙
+  memory_value = decodes c.args.image.now c.args.limits c.args.registers c.args.memory.now (ne_eqb _ _ c.if-pc-eq0.false) _ (trap_is c.first-trap.ensures c.pc_trap.ensures c.sp_trap.ensures (pc_trap_is c.args.image.now c.args.layout c.requires.valid.is c.args.registers.pc)) (eq-eqb _ _ c.if-trap-ne0.false) ∙
       c.step_inside.ensures.image_value;
   cycles_value = c.step_inside.ensures.cycles_value;
 }
