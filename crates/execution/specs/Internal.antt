@@ -3,6 +3,8 @@ use Rattle.std.specs.Prelude.{ℕ, cond, List, eqb}
 use Rattle.stm8.specs.Effects.{effect}
 use Rattle.stm8.specs.declared.Effect.{Effect}
 use Rattle.stm8.specs.declared.Instruction.{Instruction}
+use Rattle.byte_operations.specs.declared.ByteResult.{ByteResult}
+use Rattle.index_operations.specs.declared.WordResult.{WordResult}
 use Rattle.image.specs.declared.Limits.{Limits}
 use Rattle.execution.specs.Computing.{computed}
 use Rattle.execution.specs.Performing.{Result, result, effect_trap, made_by}
@@ -10,6 +12,13 @@ use Rattle.execution.specs.declared.Registers.{Registers}
 use Rattle.execution.specs.declared.Computed.{Computed}
 use Rattle.execution.specs.declared.StepAnswer.TheVariants.{Made, Trap}
 use Rattle.execution.specs.declared.TimedStep.{TimedStep}
+
+-- a byte, and a word, that touch no flag
+abbrev pub byte_keeping_flags : Registers → ℕ → ByteResult
+byte_keeping_flags regs value = record { value = value; cc = regs.cc }
+
+abbrev pub word_keeping_flags : Registers → ℕ → WordResult
+word_keeping_flags regs value = record { value = value; cc = regs.cc }
 
 -- a step with its cycles
 abbrev pub timed : ℕ → Result → TimedStep × List ℕ

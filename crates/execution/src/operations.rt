@@ -11,6 +11,7 @@ ghost use Rattle.byte_operations.specs.Conditions.{holds};
 ghost use Rattle.index_operations.specs.Words.{ldw_result, word_alu_result, word_modify_result, mul_result};
 ghost use Rattle.execution.specs.Operands.{index_of};
 ghost use Rattle.execution.specs.Computing.{with_a, with_index, storing as storing_of, testing as testing_of, into_operand, half_of, with_half};
+ghost use Rattle.execution.specs.Internal.{byte_keeping_flags, word_keeping_flags};
 
 use crate::{Computed, Registers};
 use arithmetic::flags::{with_nz_of_byte, with_nz_of_word};
@@ -66,7 +67,7 @@ impl Registers {
     }
 
     pub(crate) fn load_half(self, r: Register, h: Half) -> Computed
-        ensures { result ≡ with_a self (record { value = half_of h (index_of self r); cc = self.cc }) }
+        ensures { result ≡ with_a self (byte_keeping_flags self (half_of h (index_of self r))) }
     {
         self.with_a(ByteResult {
             value: half_of(h, self.index(r)),
@@ -75,7 +76,7 @@ impl Registers {
     }
 
     pub(crate) fn store_half(self, r: Register, h: Half) -> Computed
-        ensures { result ≡ with_index self r (record { value = with_half h (index_of self r) self.a; cc = self.cc }) }
+        ensures { result ≡ with_index self r (word_keeping_flags self (with_half h (index_of self r) self.a)) }
     {
         self.with_word(r, with_half(h, self.index(r), self.a))
     }
@@ -101,7 +102,7 @@ impl Registers {
     }
 
     pub(crate) fn copy_word(self, r: Register) -> Computed
-        ensures { result ≡ with_index self r (record { value = index_of self (other_of r); cc = self.cc }) }
+        ensures { result ≡ with_index self r (word_keeping_flags self (index_of self (other_of r))) }
     {
         self.with_word(r, self.index(other_of(r)))
     }
@@ -132,7 +133,7 @@ impl Registers {
 
     // POP, into A or to the place that the effect names.
     pub(crate) fn pop(self, x: Operand, m: u8) -> Computed
-        ensures { result ≡ into_operand self x (record { value = m; cc = self.cc }) }
+        ensures { result ≡ into_operand self x (byte_keeping_flags self m) }
     {
         self.into_operand(
             x,

@@ -2,6 +2,7 @@
 ghost use Rattle.std.specs.Prelude.{◌≡◌};
 ghost use Rattle.execution.specs.Computing.{unchanged as unchanged_of, with_a, with_index, exchanged as exchanged_of};
 ghost use Rattle.execution.specs.Computing.{storing as storing_of, testing as testing_of, into_operand};
+ghost use Rattle.execution.specs.Internal.{word_keeping_flags};
 
 use crate::{Computed, Registers};
 use byte_operations::ByteResult;
@@ -60,7 +61,7 @@ impl Registers {
 
     // A word that touches no flag.
     pub(crate) fn with_word(self, r: Register, value: u16) -> Computed
-        ensures { result ≡ with_index self r (record { value = value; cc = self.cc }) }
+        ensures { result ≡ with_index self r (word_keeping_flags self value) }
     {
         self.with_index(r, WordResult { value, cc: self.cc })
     }

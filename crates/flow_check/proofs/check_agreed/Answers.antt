@@ -1,5 +1,5 @@
 -- `flow_check::check_agreed` meets its contract.
-use Rattle.std.proofs.Common.{sym, ◌∙◌, rules}
+use Rattle.std.proofs.Common.{sym, ◌∙◌}
 use Rattle.control_flow.proofs.Following.{differ}
 use Rattle.flow_check.proofs.check_agreed.Goals as goal
 

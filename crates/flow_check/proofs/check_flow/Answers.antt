@@ -1,5 +1,5 @@
 -- `flow_check::check_flow` meets its contract: a routine that is decoded has a first start, and ends at 4,096 or before.
-use Rattle.std.proofs.Common.{arith, rules}
+use Rattle.std.proofs.Common.{arith}
 use Rattle.flow_check.proofs.check_flow.Goals as goal
 
 pub returns-then-end-entry : goal.returns-then-end-entry

@@ -1,5 +1,4 @@
 -- `execution::Computed::made` meets its contract.
-use borrow.Author.Rules.{rules}
 use Rattle.execution.proofs.Computed.made.Goals as goal
 
 pub returns : goal.returns

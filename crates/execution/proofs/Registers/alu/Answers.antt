@@ -1,5 +1,4 @@
 -- `execution::Registers::alu` meets its contract.
-use borrow.Author.Rules.{rules}
 use Rattle.execution.proofs.Registers.alu.Goals as goal
 
 pub returns : goal.returns

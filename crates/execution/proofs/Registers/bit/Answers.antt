@@ -1,5 +1,4 @@
 -- `execution::Registers::bit` meets its contract.
-use borrow.Author.Rules.{rules}
 use Rattle.execution.proofs.Registers.bit.Goals as goal
 
 pub returns : goal.returns

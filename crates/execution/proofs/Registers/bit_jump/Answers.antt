@@ -1,5 +1,4 @@
 -- `execution::Registers::bit_jump` meets its contract.
-use borrow.Author.Rules.{rules}
 use Rattle.execution.proofs.Registers.bit_jump.Goals as goal
 
 pub returns : goal.returns

@@ -1,5 +1,4 @@
 -- `execution::Registers::copy_word` meets its contract.
-use borrow.Author.Rules.{rules}
 use Rattle.execution.proofs.Registers.copy_word.Goals as goal
 
 pub returns : goal.returns

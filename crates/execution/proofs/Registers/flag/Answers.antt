@@ -1,5 +1,4 @@
 -- `execution::Registers::flag` meets its contract.
-use borrow.Author.Rules.{rules}
 use Rattle.execution.proofs.Registers.flag.Goals as goal
 
 pub returns : goal.returns

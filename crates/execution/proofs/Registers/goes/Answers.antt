@@ -1,5 +1,4 @@
 -- `execution::Registers::goes` meets its contract.
-use borrow.Author.Rules.{rules}
 use mathlib.Core.Path.{sym, ◌∙◌}
 use native.Mathlib.Omega.{arith}
 use Rattle.stm8.specs.Effects.{goes}

@@ -1,5 +1,4 @@
 -- `execution::Registers::into_operand` meets its contract.
-use borrow.Author.Rules.{rules}
 use Rattle.execution.proofs.Registers.into_operand.Goals as goal
 
 pub returns-in-Accumulator : goal.returns-in-Accumulator

@@ -1,5 +1,4 @@
 -- `execution::Registers::jump` meets its contract.
-use borrow.Author.Rules.{rules}
 use Rattle.execution.proofs.Registers.jump.Goals as goal
 
 pub returns : goal.returns

@@ -1,5 +1,4 @@
 -- `execution::Registers::jumps` meets its contract.
-use borrow.Author.Rules.{rules}
 use mathlib.Core.Path.{◌∙◌}
 use Rattle.execution.proofs.Registers.jumps.Goals as goal
 

@@ -1,5 +1,4 @@
 -- `execution::Registers::load_half` meets its contract.
-use borrow.Author.Rules.{rules}
 use Rattle.execution.proofs.Registers.load_half.Goals as goal
 
 pub returns : goal.returns

@@ -1,5 +1,4 @@
 -- `execution::Registers::load_word` meets its contract.
-use borrow.Author.Rules.{rules}
 use Rattle.execution.proofs.Registers.load_word.Goals as goal
 
 pub returns : goal.returns

@@ -1,5 +1,4 @@
 -- `execution::Registers::modify` meets its contract.
-use borrow.Author.Rules.{rules}
 use Rattle.execution.proofs.Registers.modify.Goals as goal
 
 pub returns : goal.returns

@@ -1,5 +1,4 @@
 -- `execution::Registers::moves` meets its contract: 24, or nothing is stored.
-use borrow.Author.Rules.{rules}
 use mathlib.Core.Path.{sym, ◌∙◌}
 use native.Mathlib.Omega.{arith}
 use Rattle.stm8.specs.declared.Place.TheVariants.{Nowhere}

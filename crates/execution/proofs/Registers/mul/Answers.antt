@@ -1,5 +1,4 @@
 -- `execution::Registers::mul` meets its contract.
-use borrow.Author.Rules.{rules}
 use Rattle.execution.proofs.Registers.mul.Goals as goal
 
 pub returns : goal.returns

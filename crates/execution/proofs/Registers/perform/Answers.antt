@@ -1,6 +1,5 @@
 -- `execution::Registers::perform` meets its contract: each arm by what it computes and the shape of its effect.
 use mathlib.Core.Path.{refl, ap}
-use borrow.Author.Rules.{rules}
 use Rattle.stm8.specs.Effects.{jump_flow}
 use Rattle.stm8.specs.Cycles.{cycles}
 use Rattle.stm8.specs.declared.Flow.TheVariants.{Next}

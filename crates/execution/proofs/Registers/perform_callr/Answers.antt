@@ -1,5 +1,4 @@
 -- `execution::Registers::perform_callr` meets its contract.
-use borrow.Author.Rules.{rules}
 use Rattle.stm8.specs.declared.Flow.TheVariants.{CallRelative}
 use Rattle.execution.specs.Computing.{computed}
 use Rattle.storage.specs.Storing.{call_trap}

@@ -1,7 +1,6 @@
 -- `execution::Registers::perform_modify` meets its contract.
 use mathlib.Core.Path.{refl}
 use native.Mathlib.Omega.{arith}
-use borrow.Author.Rules.{rules}
 use Rattle.stm8.specs.declared.Flow.TheVariants.{Next}
 use Rattle.execution.specs.Computing.{computed}
 use Rattle.execution.specs.Performing.{pc_after}

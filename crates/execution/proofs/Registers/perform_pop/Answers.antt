@@ -1,5 +1,4 @@
 -- `execution::Registers::perform_pop` meets its contract.
-use borrow.Author.Rules.{rules}
 use Rattle.execution.specs.Computing.{computed}
 use Rattle.execution.specs.Internal.{performed_by, performed_as}
 use Rattle.execution.proofs.Registers.perform_pop.Goals as goal

@@ -1,6 +1,5 @@
 -- `execution::Registers::perform_push` meets its contract.
 use mathlib.Core.Path.{refl}
-use borrow.Author.Rules.{rules}
 use Rattle.stm8.specs.declared.Flow.TheVariants.{Next}
 use Rattle.execution.specs.Computing.{computed}
 use Rattle.storage.specs.Storing.{call_trap}

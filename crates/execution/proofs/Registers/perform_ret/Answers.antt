@@ -1,6 +1,5 @@
 -- `execution::Registers::perform_ret` meets its contract.
 use mathlib.Core.Path.{refl}
-use borrow.Author.Rules.{rules}
 use Rattle.stm8.specs.declared.Flow.TheVariants.{Return}
 use Rattle.execution.specs.Computing.{computed}
 use Rattle.execution.specs.Performing.{pc_after}

@@ -1,6 +1,5 @@
 -- `execution::Registers::perform_store` meets its contract.
 use native.Mathlib.Omega.{arith}
-use borrow.Author.Rules.{rules}
 use Rattle.stm8.specs.declared.Flow.TheVariants.{Next}
 use Rattle.execution.specs.Computing.{computed}
 use Rattle.execution.specs.Internal.{performed_by, performed_as}

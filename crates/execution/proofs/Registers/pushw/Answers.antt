@@ -1,5 +1,4 @@
 -- `execution::Registers::pushw` meets its contract.
-use borrow.Author.Rules.{rules}
 use Rattle.execution.proofs.Registers.pushw.Goals as goal
 
 pub returns : goal.returns

@@ -1,5 +1,4 @@
 -- `execution::Registers::step` meets its contract: an address of 24 bits is its own remainder.
-use borrow.Author.Rules.{rules}
 use native.Mathlib.Nat.{mod-eq_of_lt}
 use Rattle.execution.proofs.Shapes.{apart}
 use Rattle.execution.proofs.Registers.step.Goals as goal

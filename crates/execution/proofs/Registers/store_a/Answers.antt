@@ -1,5 +1,4 @@
 -- `execution::Registers::store_a` meets its contract.
-use borrow.Author.Rules.{rules}
 use Rattle.execution.proofs.Registers.store_a.Goals as goal
 
 pub returns : goal.returns

@@ -1,5 +1,4 @@
 -- `execution::Registers::store_half` meets its contract.
-use borrow.Author.Rules.{rules}
 use Rattle.execution.proofs.Registers.store_half.Goals as goal
 
 pub returns : goal.returns

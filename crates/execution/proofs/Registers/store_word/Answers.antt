@@ -1,5 +1,4 @@
 -- `execution::Registers::store_word` meets its contract.
-use borrow.Author.Rules.{rules}
 use Rattle.execution.proofs.Registers.store_word.Goals as goal
 
 pub returns : goal.returns

@@ -1,5 +1,4 @@
 -- `execution::Registers::trapped` meets its contract.
-use borrow.Author.Rules.{rules}
 use Rattle.execution.proofs.Registers.trapped.Goals as goal
 
 pub returns : goal.returns

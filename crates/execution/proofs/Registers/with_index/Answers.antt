@@ -1,5 +1,4 @@
 -- `execution::Registers::with_index` meets its contract.
-use borrow.Author.Rules.{rules}
 use Rattle.execution.proofs.Registers.with_index.Goals as goal
 
 pub returns-in-X : goal.returns-in-X

@@ -1,5 +1,4 @@
 -- `execution::Registers::word_alu` meets its contract.
-use borrow.Author.Rules.{rules}
 use Rattle.execution.proofs.Registers.word_alu.Goals as goal
 
 pub returns : goal.returns

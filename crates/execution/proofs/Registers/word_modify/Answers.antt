@@ -1,5 +1,4 @@
 -- `execution::Registers::word_modify` meets its contract.
-use borrow.Author.Rules.{rules}
 use Rattle.execution.proofs.Registers.word_modify.Goals as goal
 
 pub returns : goal.returns

@@ -1,5 +1,4 @@
 -- `execution::moving::destination` meets its contract.
-use borrow.Author.Rules.{rules}
 use Rattle.execution.proofs.moving.destination.Goals as goal
 
 pub returns-then-taken : goal.returns-then-taken

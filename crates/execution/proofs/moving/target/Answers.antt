@@ -1,6 +1,5 @@
 -- `execution::moving::target` meets its contract: an offset adds at most 255.
 use native.Mathlib.Omega.{arith}
-use borrow.Author.Rules.{rules}
 use Rattle.stm8.proofs.EffectLaws.{relative_most}
 use Rattle.execution.proofs.moving.target.Goals as goal
 

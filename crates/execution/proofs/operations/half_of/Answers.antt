@@ -1,5 +1,4 @@
 -- `execution::operations::half_of` meets its contract.
-use borrow.Author.Rules.{rules}
 use Rattle.execution.proofs.operations.half_of.Goals as goal
 
 pub returns-in-Low : goal.returns-in-Low

@@ -1,5 +1,4 @@
 -- `execution::operations::with_half` meets its contract.
-use borrow.Author.Rules.{rules}
 use Rattle.execution.proofs.operations.with_half.Goals as goal
 
 pub returns-in-Low : goal.returns-in-Low

@@ -1,5 +1,5 @@
 -- `flow_check::exploring::depth_of` meets its contract.
-use Rattle.std.proofs.Common.{get_or, sym, refl, ap, ◌∙◌, rules}
+use Rattle.std.proofs.Common.{get_or, sym, ap, ◌∙◌}
 use Rattle.flow_check.proofs.exploring.depth_of.Goals as goal
 
 pub returns-then-e : goal.returns-then-e

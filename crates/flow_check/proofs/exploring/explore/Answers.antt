@@ -1,13 +1,10 @@
 -- `flow_check::exploring::explore` meets its contract. The loop's invariant is `Exploring`. The number of offsets whose depth is not known and the
 -- height of the stack fall by one or more with each visit, and are together no more than the visits that are left.
-use Rattle.std.proofs.Common.{ℕ, ◌+◌, ◌-◌, ◌<◌, ◌≤◌, true, sym, arith, rules}
-use Rattle.control_flow.specs.Graph.{graph, Reached}
-use Rattle.control_flow.specs.Exploring.{middle, known}
+use Rattle.std.proofs.Common.{◌-◌, ◌≤◌, sym, arith}
 use Rattle.control_flow.proofs.Following.{differ}
-use Rattle.control_flow.proofs.Invariant.{Exploring, Nothing, begins}
+use Rattle.control_flow.proofs.Invariant.{begins}
 use Rattle.control_flow.proofs.Visits.{ready, visit_keeps, visit_less}
 use Rattle.control_flow.proofs.Ends.{ends}
-use Rattle.flow_check.specs.Internal.{Noted}
 use Rattle.flow_check.proofs.exploring.explore.Goals as goal
 
 pub loop-left-init : goal.loop-left-init

@@ -1,9 +1,10 @@
 -- `flow_check::exploring::lowest_unknown` meets its contract. The loop's invariant: the depth of every start passed is known.
-use Rattle.std.proofs.Common.{◌-◌, ◌≤◌, ⊎_elim, arith}
+use Rattle.std.proofs.Common.{◌≤◌, arith}
 use Rattle.control_flow.specs.Graph.{column}
 use Rattle.control_flow.specs.Exploring.{Known}
-use Rattle.control_flow.proofs.Rising.{Below, none_below, one_more}
+use Rattle.control_flow.proofs.Rising.{none_below, one_more}
 use Rattle.flow_check.proofs.exploring.lowest_unknown.Goals as goal
+use Rattle.flow_check.proofs.exploring.lowest_unknown.Goals.{Joined-cells-o-ne0, then-cells-o-ne0+else-depths-o-eq0, else-cells-o-ne0}
 
 pub returns-then-depths-o-eq0 : goal.returns-then-depths-o-eq0
 returns-then-depths-o-eq0 c =
@@ -15,7 +16,7 @@ returns-then-depths-o-eq0 c =
 
 known_here : (c : Joined-cells-o-ne0) →
     1 ≤ column 0 c.args.cells.now c.loop-o.o → Known c.args.depths.now c.loop-o.o
-known_here c is = ⊎_elim (λ w. omega arith) (λ w. absurd (omega arith)) c.if-cells-o-ne0.branch
+known_here c is = elim c.if-cells-o-ne0.branch [ then-cells-o-ne0+else-depths-o-eq0 w ↦ omega arith | else-cells-o-ne0 w ↦ absurd (omega arith) ]
 
 pub loop-o-preserved : goal.loop-o-preserved
 loop-o-preserved c =

@@ -1,8 +1,8 @@
 -- `flow_check::exploring::lowest_unknown` meets its contract. The loop's invariant: the depth of every start passed is known.
-use Rattle.std.proofs.Common.{◌-◌, ◌≤◌, ⊎_elim, arith}
+use Rattle.std.proofs.Common.{◌-◌, ◌≤◌}
 use Rattle.control_flow.specs.Graph.{column}
 use Rattle.control_flow.specs.Exploring.{Known}
-use Rattle.control_flow.proofs.Rising.{Below, none_below, one_more}
+use Rattle.control_flow.proofs.Rising.{Below}
 use Rattle.flow_check.proofs.exploring.lowest_unknown.Given as goal
 
 abbrev pub invariant-loop-o : goal.invariant-loop-o

@@ -1,5 +1,5 @@
 -- `flow_check::exploring::top_of` meets its contract.
-use Rattle.std.proofs.Common.{sym, ◌∙◌, arith, rules}
+use Rattle.std.proofs.Common.{arith}
 use Rattle.flow_check.proofs.exploring.top_of.Goals as goal
 
 pub returns-then-e : goal.returns-then-e

@@ -1,5 +1,5 @@
 -- `flow_check::exploring::visit` meets its contract.
-use Rattle.std.proofs.Common.{◌∙◌, arith, rules}
+use Rattle.std.proofs.Common.{◌∙◌, arith}
 use Rattle.control_flow.proofs.Following.{effect}
 use Rattle.flow_check.proofs.exploring.visit.Goals as goal
 

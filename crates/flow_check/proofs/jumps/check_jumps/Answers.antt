@@ -1,8 +1,8 @@
 -- `flow_check::jumps::check_jumps` meets its contract. The loop's invariant: the jumps of the starts passed land on starts.
-use Rattle.std.proofs.Common.{◌-◌, ◌≤◌, arith, rules}
+use Rattle.std.proofs.Common.{arith}
 use Rattle.control_flow.specs.Graph.{column}
 use Rattle.control_flow.specs.Exploring.{fails, passes}
-use Rattle.control_flow.proofs.Rising.{Below, none_below, one_more}
+use Rattle.control_flow.proofs.Rising.{none_below, one_more}
 use Rattle.flow_check.specs.Internal.{Lands}
 use Rattle.flow_check.proofs.jumps.check_jumps.Goals as goal
 

@@ -1,5 +1,5 @@
 -- `flow_check::jumps::jump_number` meets its contract.
-use Rattle.std.proofs.Common.{rules, le-ltb, lt-ltb, eq-eqb, ne_eqb}
+use Rattle.std.proofs.Common.{le-ltb, lt-ltb, eq-eqb, ne_eqb}
 use Rattle.control_flow.specs.Routine.{jump_number}
 use Rattle.flow_check.proofs.jumps.jump_number.Goals as goal
 

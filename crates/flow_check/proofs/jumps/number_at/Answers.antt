@@ -1,5 +1,5 @@
 -- `flow_check::jumps::number_at` meets its contract.
-use Rattle.std.proofs.Common.{sym, ◌∙◌, arith, rules, eq-eqb}
+use Rattle.std.proofs.Common.{sym, ◌∙◌, arith, eq-eqb}
 use Rattle.control_flow.specs.Routine.{jump_number}
 use Rattle.flow_check.proofs.jumps.number_at.Goals as goal
 

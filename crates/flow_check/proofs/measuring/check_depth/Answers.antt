@@ -1,10 +1,11 @@
 -- `flow_check::measuring::check_depth` meets its contract. What the passed checks say of the start's cells keeps every sum and difference in range.
-use Rattle.std.proofs.Common.{ℕ, ◌+◌, ◌≤◌, get_or, sym, ◌∙◌, arith, rules}
+use Rattle.std.proofs.Common.{ℕ, ◌+◌, ◌≤◌, get_or, sym, ◌∙◌, arith}
 use Rattle.control_flow.specs.Graph.{column}
 use Rattle.control_flow.specs.Exploring.{middle}
 use Rattle.control_flow.specs.Measuring.{skips, refuses, measures}
 use Rattle.control_flow.proofs.DepthNumbers.{Inside, depth_passes}
 use Rattle.flow_check.proofs.measuring.check_depth.Goals as goal
+use Rattle.flow_check.proofs.measuring.check_depth.Goals.{Else-number-ne0}
 
 here : (c : Else-number-ne0) →
     let o = c.args.c.at in
@@ -35,7 +36,7 @@ pub overflow_sub-depth : goal.overflow_sub-depth
 overflow_sub-depth c = omega (arith, (here c).0.before_low)
 
 pub overflow_add-marks : goal.overflow_add-marks
-overflow_add-marks c = omega (arith, (here c).0.before_high)
+overflow_add-marks c = omega (arith, (here (goal.at.overflow_add-marks c).Else-number-ne0).0.before_high)
 
 pub overflow_cast-marks : goal.overflow_cast-marks
-overflow_cast-marks c = omega (arith, (here c).0.before_high)
+overflow_cast-marks c = omega (arith, (here (goal.at.overflow_cast-marks c).Else-number-ne0).0.before_high)

@@ -1,11 +1,8 @@
 -- `flow_check::measuring::check_depths` meets its contract. The loop's invariant is `Measuring`: every start passed is done.
-use Rattle.std.proofs.Common.{◌≡◌, ◌-◌, ◌≤◌, length, refl, ◌∙◌, arith, rules}
-use Rattle.control_flow.specs.Graph.{cells}
-use Rattle.control_flow.specs.Routine.{routine}
-use Rattle.control_flow.specs.Exploring.{middle, fails}
-use Rattle.control_flow.specs.Measuring.{Measurable}
+use Rattle.std.proofs.Common.{◌≡◌, refl, ◌∙◌, arith}
+use Rattle.control_flow.specs.Exploring.{fails}
 use Rattle.control_flow.proofs.Outcomes.{tested_none}
-use Rattle.control_flow.proofs.Measures.{Measuring, measuring_begins, measuring_ends, measuring_passes, step_refuses, step_keeps}
+use Rattle.control_flow.proofs.Measures.{measuring_begins, measuring_ends, measuring_passes, step_refuses, step_keeps}
 use Rattle.flow_check.proofs.Steps.{step_next, step_marks}
 use Rattle.flow_check.proofs.measuring.check_depths.Goals as goal
 

@@ -1,5 +1,5 @@
 -- `flow_check::measuring::depth_number` meets its contract: the checks before one that fails pass.
-use Rattle.std.proofs.Common.{rules, le-ltb, lt-ltb, ne_eqb}
+use Rattle.std.proofs.Common.{le-ltb, lt-ltb, ne_eqb}
 use Rattle.numbers.specs.Checks.{first, under}
 use Rattle.numbers.specs.Folds.{first_in}
 use Rattle.control_flow.specs.Routine.{depth_number}

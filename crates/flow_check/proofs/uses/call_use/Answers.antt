@@ -1,5 +1,5 @@
 -- `flow_check::uses::call_use` meets its contract.
-use Rattle.std.proofs.Common.{arith, rules, eq-eqb, ne_eqb}
+use Rattle.std.proofs.Common.{arith, eq-eqb, ne_eqb}
 use Rattle.control_flow.specs.Measuring.{call_use}
 use Rattle.flow_check.proofs.uses.call_use.Goals as goal
 

@@ -1,5 +1,4 @@
 -- `flow_check::uses::used` meets its contract.
-use Rattle.std.proofs.Common.{rules}
 use Rattle.control_flow.specs.Measuring.{greatest_use}
 use Rattle.flow_check.proofs.uses.used.Goals as goal
 

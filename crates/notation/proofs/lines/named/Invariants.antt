@@ -1,12 +1,9 @@
 -- `notation::lines::named` meets its contract. The loop's invariant: what is left of the name, written after the letters so far, gives the whole.
 -- The measure is what is left of the five letters.
 use Prim.Native.Nat.{◌≤◌, ◌-◌}
-use mathlib.Core.Path.{◌≡◌, refl, ◌∙◌}
-use native.Mathlib.Omega.{arith}
-use lib.ListN.{length, drop, drop_of_length-le}
-use borrow.Author.Rules.{rules}
+use mathlib.Core.Path.{◌≡◌}
+use lib.ListN.{drop}
 use Rattle.notation.specs.Writing.{trimmed, Text, wrote}
-use Rattle.notation.proofs.Growing.{wrote_letter}
 use Rattle.notation.proofs.lines.named.Given as goal
 
 abbrev pub invariant-loop-i : goal.invariant-loop-i

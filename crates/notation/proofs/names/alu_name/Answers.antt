@@ -1,5 +1,4 @@
 -- `notation::names::alu_name` meets its contract.
-use borrow.Author.Rules.{rules}
 use Rattle.notation.proofs.names.alu_name.Goals as goal
 
 pub returns-in-Adc : goal.returns-in-Adc

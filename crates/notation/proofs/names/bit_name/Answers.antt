@@ -1,5 +1,4 @@
 -- `notation::names::bit_name` meets its contract.
-use borrow.Author.Rules.{rules}
 use Rattle.notation.proofs.names.bit_name.Goals as goal
 
 pub returns-in-Bccm : goal.returns-in-Bccm

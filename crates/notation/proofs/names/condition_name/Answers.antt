@@ -1,5 +1,4 @@
 -- `notation::names::condition_name` meets its contract.
-use borrow.Author.Rules.{rules}
 use Rattle.notation.proofs.names.condition_name.Goals as goal
 
 pub returns-in-Jra : goal.returns-in-Jra

@@ -1,5 +1,4 @@
 -- `notation::names::flag_name` meets its contract.
-use borrow.Author.Rules.{rules}
 use Rattle.notation.proofs.names.flag_name.Goals as goal
 
 pub returns-in-Ccf : goal.returns-in-Ccf

@@ -1,5 +1,4 @@
 -- `notation::names::modify_name` meets its contract.
-use borrow.Author.Rules.{rules}
 use Rattle.notation.proofs.names.modify_name.Goals as goal
 
 pub returns-in-Clr : goal.returns-in-Clr

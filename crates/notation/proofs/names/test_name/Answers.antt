@@ -1,5 +1,4 @@
 -- `notation::names::test_name` meets its contract.
-use borrow.Author.Rules.{rules}
 use Rattle.notation.proofs.names.test_name.Goals as goal
 
 pub returns-in-Btjf : goal.returns-in-Btjf

@@ -1,5 +1,4 @@
 -- `notation::names::word_alu_name` meets its contract.
-use borrow.Author.Rules.{rules}
 use Rattle.notation.proofs.names.word_alu_name.Goals as goal
 
 pub returns-in-Addw : goal.returns-in-Addw

@@ -1,5 +1,4 @@
 -- `notation::names::word_modify_name` meets its contract.
-use borrow.Author.Rules.{rules}
 use Rattle.notation.proofs.names.word_modify_name.Goals as goal
 
 pub returns-in-Clrw : goal.returns-in-Clrw

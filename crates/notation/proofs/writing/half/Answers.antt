@@ -1,5 +1,4 @@
 -- `notation::writing::half` meets its contract.
-use borrow.Author.Rules.{rules}
 use Rattle.notation.proofs.Growing.{◌then◌}
 use Rattle.notation.proofs.writing.half.Goals as goal
 

@@ -1,6 +1,5 @@
 -- `notation::writing::hex_digit` meets its contract: the code reads the very list of digits.
 use mathlib.Core.Path.{refl}
-use borrow.Author.Rules.{rules}
 use Rattle.notation.specs.Notation.{digit}
 use Rattle.notation.proofs.writing.hex_digit.Goals as goal
 

@@ -1,5 +1,4 @@
 -- `notation::writing::operand` meets its contract.
-use borrow.Author.Rules.{rules}
 use Rattle.notation.proofs.Growing.{◌then◌}
 use Rattle.notation.proofs.writing.operand.Goals as goal
 

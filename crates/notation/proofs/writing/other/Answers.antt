@@ -1,5 +1,4 @@
 -- `notation::writing::other` meets its contract.
-use borrow.Author.Rules.{rules}
 use Rattle.notation.proofs.writing.other.Goals as goal
 
 pub returns-in-X : goal.returns-in-X

@@ -1,6 +1,5 @@
 -- `notation::writing::push` meets its contract.
 use borrow.Author.Tests.{le-ltb, lt-ltb}
-use borrow.Author.Rules.{rules}
 use Rattle.notation.specs.Writing.{pushed}
 use Rattle.notation.proofs.writing.push.Goals as goal
 

@@ -1,5 +1,4 @@
 -- `notation::writing::push_offset` meets its contract.
-use borrow.Author.Rules.{rules}
 use Rattle.notation.proofs.Growing.{◌then◌, nothing}
 use Rattle.notation.proofs.writing.push_offset.Goals as goal
 

@@ -1,5 +1,4 @@
 -- `notation::writing::push_register` meets its contract.
-use borrow.Author.Rules.{rules}
 use Rattle.notation.proofs.writing.push_register.Goals as goal
 
 pub returns-in-X : goal.returns-in-X

@@ -1,6 +1,5 @@
 -- `storage::reading::byte_from` meets its contract, by the three ways of a read.
 use mathlib.Core.Path.{sym, ◌∙◌}
-use borrow.Author.Rules.{rules}
 use Rattle.storage.proofs.ReadLaws.{from_memory, below_code, from_code}
 use Rattle.storage.proofs.reading.byte_from.Goals as goal
 

@@ -1,5 +1,4 @@
 -- `storage::reading::read_word` meets its contract.
-use borrow.Author.Rules.{rules}
 use Rattle.storage.specs.Reading.{read_word}
 use Rattle.storage.proofs.reading.read_word.Goals as goal
 

@@ -1,5 +1,4 @@
 -- `storage::storing::put` meets its contract.
-use borrow.Author.Rules.{rules}
 use Rattle.storage.specs.Storing.{memory_after}
 use Rattle.storage.proofs.storing.put.Goals as goal
 

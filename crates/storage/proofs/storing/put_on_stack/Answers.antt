@@ -1,5 +1,4 @@
 -- `storage::storing::put_on_stack` meets its contract.
-use borrow.Author.Rules.{rules}
 use mathlib.Core.Path.{◌∙◌}
 use Rattle.storage.specs.Storing.{stored_at}
 use Rattle.storage.proofs.storing.put_on_stack.Goals as goal

@@ -1,5 +1,4 @@
 -- `storage::storing::put_operand` meets its contract.
-use borrow.Author.Rules.{rules}
 use Rattle.storage.proofs.NothingStored.{nothing_stored}
 use Rattle.storage.proofs.storing.put_operand.Goals as goal
 

@@ -1,5 +1,4 @@
 -- `storage::storing::put_unless` meets its contract.
-use borrow.Author.Rules.{rules}
 use mathlib.Core.Path.{refl}
 use borrow.Author.Tests.{eq-eqb, ne_eqb}
 use Rattle.storage.proofs.storing.put_unless.Goals as goal

@@ -1,5 +1,4 @@
 -- `storage::traps::move_trap` meets its contract.
-use borrow.Author.Rules.{rules}
 use Rattle.storage.specs.Storing.{move_trap}
 use Rattle.storage.proofs.traps.move_trap.Goals as goal
 

@@ -1,5 +1,4 @@
 -- `storage::traps::stack_trap` meets its contract.
-use borrow.Author.Rules.{rules}
 use native.Mathlib.Omega.{arith}
 use Rattle.stm8.proofs.EffectLaws.{wide_most}
 use Rattle.storage.specs.Storing.{store_trap}
