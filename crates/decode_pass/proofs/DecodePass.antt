@@ -3,7 +3,7 @@ use Prim.Native.Nat.{ℕ, ◌+◌, ◌<◌, ◌≤◌}
 use mathlib.Core.Path.{◌≡◌, refl, sym, ap, ◌∙◌}
 use mathlib.Core.Logic.{inl, inr, ⊎_elim, by_cases}
 use mathlib.Core.Bool.{Bool, true, false}
-use mathlib.Core.List.{List, [], ◌∷◌}
+use mathlib.Core.List.{List, []}
 use native.Mathlib.Decide.{ℕ_discrete, dec_lt}
 use native.Mathlib.Omega.{arith}
 use lib.ListN.{length, get_or, set, length-set}
@@ -17,13 +17,13 @@ use Rattle.stm8.specs.declared.Decoded.{Decoded}
 use Rattle.stm8.specs.declared.Decoded.TheVariants.{Found, Outside, Truncated}
 use Rattle.image.specs.Image.{end_of}
 use Rattle.code.specs.Depth.{falls}
-use Rattle.code.specs.Code.{instruction_at, Start, begins, follows}
+use Rattle.code.specs.Code.{decoded_at, instruction_at, Start, begins, follows}
 use Rattle.rules.specs.Refusal.{CodeFault, outside, cut, off}
 use Rattle.code.proofs.Starts.{found_inside, start_low, start_high, next_start}
 use Rattle.control_flow.specs.Graph.{column}
 use Rattle.acceptance.specs.Cells.{Stored}
 use Rattle.acceptance.proofs.CodeFaults.{code_lowest}
-use Rattle.decode_pass.specs.Pass.{RoutineOf, NoStarts, cells_of, RoutineDecoded, refused, filled}
+use Rattle.decode_pass.specs.Pass.{RoutineOf, Given, NoStarts, cells_of, RoutineDecoded, refused, filled}
 use Rattle.decode_pass.specs.Internal.{OffEnd, row_of, StartDecoded, faulty, whole, DecodedTo}
 use Rattle.decode_pass.specs.declared.Routine.{Routine}
 
@@ -45,25 +45,30 @@ pub start_below : {image : List ℕ} {r : Routine} {at : ℕ} → RoutineOf imag
 start_below {image} {r} routine s =
     omega (arith, start_high image r.index (omega (arith, routine.some, routine.start_is, routine.end_is)) s, routine.end_is)
 
--- what the decoder's tag says where it finds none
+-- a decoder's answer that is no instruction
 abbrev pub NoInstruction : Decoded → Type 0
-NoInstruction d = types.Run.OneOf (1 ∷ 2 ∷ []) (denote.Enum.Declared.tag_of Rattle.stm8.specs.contracts.Decoded.the_type d)
+NoInstruction d = (i : Instruction) (n : ℕ) → d ≡ Found i n → ⊥
 
 pub number_some : (d : Decoded) {number : ℕ} → NoInstruction d → number ≡ decoding_number d → 1 ≤ number
-number_some (Found i n) k e = absurd (⊎_elim (λ z. omega arith) (λ z. omega arith) k)
-number_some Outside k e = omega arith
-number_some Truncated k e = omega arith
+number_some (Found i n) none e = absurd (none i n refl)
+number_some Outside none e = omega arith
+number_some Truncated none e = omega arith
+
+-- what is decoded up to the routine's end is what stands at the offset
+pub decoded_there : {image code begins : List ℕ} {r : Routine} {d : Decoded} (at : ℕ) → Given image code begins r → d ≡ decoded_at image r.end at →
+    d ≡ instruction_at image r.index at
+decoded_there {image} at given is = is ∙ ap (λ n. decoded_at image n at) given.routine.end_is
 
 -- the three ways through a start, with each value as a variable
 module _ {image : List ℕ} {r : Routine} {at : ℕ} (start : Start image r.index at) where
   undecoded : {next : ℕ} {row : List ℕ} (d : Decoded) → instruction_at image r.index at ≡ d → NoInstruction d → StartDecoded image r at (decoding_number d) next row
-  undecoded (Found i n) e k = absurd (⊎_elim (λ z. omega arith) (λ z. omega arith) k)
-  undecoded Outside e k = faulty (outside start e)
-  undecoded Truncated e k = faulty (cut start e)
+  undecoded (Found i n) e none = absurd (none i n refl)
+  undecoded Outside e none = faulty (outside start e)
+  undecoded Truncated e none = faulty (cut start e)
 
   pub start_undecoded : {number next : ℕ} {row : List ℕ} (d : Decoded) → d ≡ instruction_at image r.index at → NoInstruction d → number ≡ decoding_number d →
       StartDecoded image r at number next row
-  start_undecoded d e k number_is = rw number_is (undecoded d (sym e) k)
+  start_undecoded d e none number_is = rw number_is (undecoded d (sym e) none)
 
   module _ (routine : RoutineOf image r) {i : Instruction} {n : ℕ} {e : Effect} {past : Bool}
       (found : instruction_at image r.index at ≡ Found i n) (effect_is : e ≡ effect i) (ends : OffEnd r.end (at + n) e.flow past) where

@@ -1,12 +1,9 @@
 -- `decode_pass::cells::callee` meets its contract. The loop's invariant: what is left to search has the same answer as the whole.
 use Prim.Native.Nat.{ℕ, ◌-◌, ◌≤◌}
-use mathlib.Core.Path.{◌≡◌, sym, ◌∙◌}
+use mathlib.Core.Path.{◌≡◌}
 use mathlib.Core.List.{List}
-use native.Mathlib.Nat.{sub-zero}
 use Rattle.rules.specs.Paths.{beginning}
 use Rattle.image.specs.Lengths.{Begins}
-use Rattle.decode_pass.proofs.Callees.{callee_below, callee_above, beginning_stop, beginning_more, beginning_done}
-use native.Mathlib.Omega.{arith}
 use Rattle.decode_pass.proofs.cells.callee.Given as goal
 
 abbrev pub invariant-loop-j : goal.invariant-loop-j

@@ -1,6 +1,5 @@
 -- `decode_pass::cells::callee_cell` meets its contract.
 use Rattle.decode_pass.proofs.Callees.{callee_earlier, callee_none}
-use borrow.Author.Rules.{rules}
 use Rattle.decode_pass.proofs.cells.callee_cell.Goals as goal
 
 pub returns-then-k-r : goal.returns-then-k-r

@@ -1,5 +1,4 @@
 -- `decode_pass::cells::row_of` meets its contract.
-use borrow.Author.Rules.{rules}
 use Rattle.decode_pass.proofs.cells.row_of.Goals as goal
 
 pub returns : goal.returns

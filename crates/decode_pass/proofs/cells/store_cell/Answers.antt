@@ -1,7 +1,6 @@
 -- `decode_pass::cells::store_cell` meets its contract.
 use native.Mathlib.Omega.{arith}
 use borrow.Author.Tests.{eq-eqb, ne_eqb}
-use borrow.Author.Rules.{rules}
 use Rattle.stm8.proofs.EffectLaws.{wide_some, wide_most}
 use Rattle.acceptance.specs.Cells.{store_cell}
 use Rattle.decode_pass.proofs.cells.store_cell.Goals as goal

@@ -1,7 +1,6 @@
 -- `decode_pass::cells::target_cell` meets its contract.
 use Rattle.acceptance.specs.Cells.{target_cell}
 use borrow.Author.Tests.{lt-ltb, le-ltb}
-use borrow.Author.Rules.{rules}
 use Rattle.decode_pass.proofs.cells.target_cell.Goals as goal
 
 pub returns-then-address-base : goal.returns-then-address-base

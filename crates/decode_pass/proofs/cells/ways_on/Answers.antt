@@ -1,5 +1,4 @@
 -- `decode_pass::cells::ways_on` meets its contract.
-use borrow.Author.Rules.{rules}
 use Rattle.stm8.specs.Effects.{jump_target, call_target}
 use Rattle.decode_pass.proofs.cells.ways_on.Goals as goal
 

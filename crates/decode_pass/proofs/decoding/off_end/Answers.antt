@@ -1,7 +1,6 @@
 -- `decode_pass::decoding::off_end` meets its contract.
 use mathlib.Core.Path.{sym, ◌∙◌}
 use borrow.Author.Tests.{leb-true, leb-false}
-use borrow.Author.Rules.{rules}
 use Rattle.decode_pass.proofs.DecodePass.{falls_not}
 use Rattle.decode_pass.proofs.decoding.off_end.Goals as goal
 
