@@ -1,6 +1,6 @@
 -- A number and its bytes, there and back, for any width.
 use Prim.Native.Nat.{ℕ, zero, suc, ◌+◌, ◌*◌, ◌/◌, ◌%◌, ◌<◌, ◌≤◌}
-use mathlib.Core.Path.{◌≡◌, refl, sym}
+use mathlib.Core.Path.{◌≡◌, refl, sym, ap, ◌∙◌}
 use mathlib.Core.List.{List, [], ◌∷◌, ◌++◌, append_assoc, append-nil}
 use native.Mathlib.Nat.{add-suc, add-zero, not-suc-le-zero}
 use native.Mathlib.Omega.{arith}
@@ -45,14 +45,15 @@ number_reads front zero n h = omega arith
 number_reads front (suc width) n h =
     let upper = number_bytes width (n / 256) in
     let long : length (front ++ upper) ≡ length front + width = rw (length-append, length_number width (n / 256)) in
-    let same : front ++ (upper ++ (n % 256 ∷ [])) ≡ (front ++ upper) ++ (n % 256 ∷ []) = sym (append_assoc front upper (n % 256 ∷ [])) in
+    let same : front ++ number_bytes (suc width) n ≡ (front ++ upper) ++ (n % 256 ∷ []) = sym (append_assoc front upper (n % 256 ∷ [])) in
+    let rest : number_at ((front ++ upper) ++ (n % 256 ∷ [])) (length front) (suc width) ≡ n =
     rw (
-      same,
       number_front (front ++ upper) (n % 256 ∷ []) (length front) width (omega arith),
       get_or_at (front ++ upper) (n % 256) [] 0 (length front + width) long,
       number_reads front width (n / 256) (omega arith),
     )
-    (omega arith)
+    (omega arith) in
+    ap (λ (bytes : List ℕ). number_at bytes (length front) (suc width)) same ∙ rest
 
 -- and bytes are those of the number in them
 whole : (n b : ℕ) → b < 256 → (n * 256 + b) / 256 ≡ n

@@ -1,12 +1,10 @@
 -- `saved_state::number_bytes` meets its contract. The loop's invariant: the bytes of what is left, and those written so far, are the number's.
-use Prim.Native.Nat.{suc, ◌-◌, ◌≤◌}
+use Prim.Native.Nat.{suc, ◌-◌}
 use mathlib.Core.Path.{◌≡◌, refl, ◌∙◌}
-use mathlib.Core.List.{◌++◌}
 use native.Mathlib.Omega.{arith}
-use lib.ListN.{length, drop, length-set}
+use lib.ListN.{length-set}
 use Rattle.saved_state.specs.Sls.{number_bytes}
 use Rattle.saved_state.proofs.NumberLaws.{written_last}
-use borrow.Author.Rules.{rules}
 use Rattle.saved_state.proofs.number_bytes.Goals as goal
 
 pub loop-at-init : goal.loop-at-init

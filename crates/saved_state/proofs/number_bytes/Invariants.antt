@@ -1,12 +1,9 @@
 -- `saved_state::number_bytes` meets its contract. The loop's invariant: the bytes of what is left, and those written so far, are the number's.
-use Prim.Native.Nat.{suc, ◌-◌, ◌≤◌}
-use mathlib.Core.Path.{◌≡◌, refl, ◌∙◌}
+use Prim.Native.Nat.{◌≤◌}
+use mathlib.Core.Path.{◌≡◌}
 use mathlib.Core.List.{◌++◌}
-use native.Mathlib.Omega.{arith}
-use lib.ListN.{length, drop, length-set}
+use lib.ListN.{length, drop}
 use Rattle.saved_state.specs.Sls.{number_bytes}
-use Rattle.saved_state.proofs.NumberLaws.{written_last}
-use borrow.Author.Rules.{rules}
 use Rattle.saved_state.proofs.number_bytes.Given as goal
 
 abbrev pub invariant-loop-at : goal.invariant-loop-at

@@ -1,7 +1,6 @@
 -- `saved_state::save` meets its contract.
 use mathlib.Core.Path.{sym, ◌∙◌}
 use Rattle.saved_state.proofs.Saving.{saving_fits, saved_refused, saved_written}
-use borrow.Author.Rules.{rules}
 use Rattle.saved_state.proofs.save.Goals as goal
 
 pub returns-then-number-ne0 : goal.returns-then-number-ne0

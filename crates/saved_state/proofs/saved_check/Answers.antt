@@ -12,7 +12,6 @@ use Rattle.numbers.proofs.Folding.{first_none}
 use Rattle.numbers.proofs.Comparing.{same_is}
 use Rattle.saved_state.specs.Sls.{step_bytes, saved_check}
 use Rattle.saved_state.proofs.Saving.{step_bytes_most}
-use borrow.Author.Rules.{rules}
 use Rattle.saved_state.proofs.saved_check.Goals as goal
 
 pub overflow_add-step_bytes : goal.overflow_add-step_bytes

@@ -1,6 +1,5 @@
 -- `saved_state::saving_number` meets its contract.
 use Rattle.saved_state.specs.Sls.{saving_number}
-use borrow.Author.Rules.{rules}
 use Rattle.saved_state.proofs.saving_number.Goals as goal
 
 pub returns : goal.returns

@@ -1,7 +1,6 @@
 -- `saved_state::state_bytes` meets its contract.
 use Rattle.numbers.specs.Words.{high, low}
 use Rattle.saved_state.specs.Sls.{number_bytes, state_bytes}
-use borrow.Author.Rules.{rules}
 use Rattle.saved_state.proofs.state_bytes.Goals as goal
 
 pub returns : goal.returns

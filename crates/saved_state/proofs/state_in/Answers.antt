@@ -1,7 +1,6 @@
 -- `saved_state::state_in` meets its contract.
 use Rattle.saved_state.specs.Sls.{state_in}
 use Rattle.saved_state.proofs.Saving.{step_bytes_most}
-use borrow.Author.Rules.{rules}
 use Rattle.saved_state.proofs.state_in.Goals as goal
 
 pub steps_of-requires : goal.steps_of-requires

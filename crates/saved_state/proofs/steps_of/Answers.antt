@@ -1,5 +1,5 @@
 -- `saved_state::steps_of` meets its contract. The loop's invariant: what is read so far is the number in so many bytes.
-use Prim.Native.Nat.{ℕ, ◌-◌, ◌<◌, ◌≤◌}
+use Prim.Native.Nat.{ℕ, ◌<◌, ◌≤◌}
 use mathlib.Core.List.{List}
 use mathlib.Core.Path.{◌≡◌, refl}
 use native.Mathlib.Numerals.{add-one}
@@ -7,7 +7,6 @@ use native.Mathlib.Omega.{arith}
 use Rattle.numbers.specs.Lists.{Bytes}
 use Rattle.saved_state.specs.Sls.{number_at}
 use Rattle.saved_state.proofs.NumberLaws.{range_rises, number_below}
-use borrow.Author.Rules.{rules}
 use Rattle.saved_state.proofs.steps_of.Goals as goal
 
 pub loop-read-init : goal.loop-read-init
