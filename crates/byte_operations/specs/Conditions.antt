@@ -1,4 +1,4 @@
--- The conditions of the relative jumps, in the order of their op_codes 20 to 2F.
+-- The conditions of the relative jumps, in the order of their op-codes 20 to 2F.
 use Rattle.std.specs.Prelude.{ℕ, Bool, true, false, not, ◌&&◌, ◌||◌}
 use Rattle.std.specs.Bool.{xor}
 use Rattle.stm8.specs.declared.Condition.{Condition}

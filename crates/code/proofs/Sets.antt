@@ -80,7 +80,7 @@ module _ (version : ℕ) (i : Instruction) (n : ℕ) where
       let whole : length_of (entry_for version (entry_in page s)) ≡ length_of (entry_in page s) = rw ((found s i n f).entry, in_set) in
       ap (λ k. decoded_in page k s) whole ∙ f
 
--- CALLR stands at AD, without pre-code: the computed test over all op_codes.
+-- CALLR stands at AD, without pre-code: the computed test over all op-codes.
 abbrev pub entry_callr : Entry → Bool
 entry_callr Blank = false
 entry_callr (Is i) = is_callr (effect i).flow

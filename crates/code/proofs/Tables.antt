@@ -1,4 +1,4 @@
--- The lengths of a version's op_codes, as tables that are lent: decoding by them is decoding by the set of the version.
+-- The lengths of a version's op-codes, as tables that are lent: decoding by them is decoding by the set of the version.
 use Prim.Native.Nat.{ℕ, ◌-◌, ◌<◌}
 use mathlib.Core.Path.{◌≡◌, refl, ap, sym, ◌∙◌}
 use mathlib.Core.Bool.{true, false, cond}
@@ -28,7 +28,7 @@ module _ (version : ℕ) where
   unfolding lengths_for lengths
   lengths_cut e = rw (not-true (allowed version (Callr 0)) e)
 
-  -- the bytes after an op_code do not change its length
+  -- the bytes after an op-code do not change its length
   length_at : (page : Page) (a b c d op : ℕ) → op < 256 → get_or (page_lengths version page) op 0 ≡ length_of (entry_for version (entry page op a b c d))
   length_at page a b c d op h =
       let out = without_callr version in

@@ -22,7 +22,7 @@ is_callr Return = false
 abbrev pub allowed : ℕ → Instruction → Bool
 allowed version i = cond (is_callr (effect i).flow) (not (eqb version 0x0002)) true
 
--- an entry of the op_code map, blank where the version leaves its instruction out
+-- an entry of the op-code map, blank where the version leaves its instruction out
 abbrev pub entry_for : ℕ → Entry → Entry
 entry_for version Blank = Blank
 entry_for version (Is i) = cond (allowed version i) (Is i) Blank
@@ -31,7 +31,7 @@ entry_for version (Is i) = cond (allowed version i) (Is i) Blank
 unfoldable pub decoded_for : ℕ → List ℕ → Decoded
 decoded_for version s = let page = page_of (get_or s 0 0) in decoded_in page (length_of (entry_for version (entry_in page s))) s
 
--- the lengths of a version's op_codes, a table for each page: that decoding goes by them is a theorem
+-- the lengths of a version's op-codes, a table for each page: that decoding goes by them is a theorem
 abbrev pub page_lengths : ℕ → Page → List ℕ
 page_lengths version page = table (λ op. length_of (entry_for version (entry page op 0 0 0 0)))
 

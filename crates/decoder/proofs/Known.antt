@@ -40,7 +40,7 @@ module _ (s : List ℕ) (bytes : Bytes s) (page : Page) where
       r ≡ decoded_in page (length_of (entry_in page s)) s
   by_own {n = n} is d = d.1 ∙ as_decoded d.0 n (λ e. is ∙ e) ∙ ap (λ m. decoded_in page m s) (is ∙ own)
 
--- an op_code of the map has a length: the computed test
+-- an op-code of the map has a length: the computed test
 has_length : (page : Page) (a b c d op : ℕ) → op < 256 → length_of (entry page op a b c d) ≡ 0 → entry page op a b c d ≡ Blank
 has_length page a b c d op h none = sym (rw none at (same page op h))
   where

@@ -1,4 +1,4 @@
--- The bytes after an op_code, from the words that hold them.
+-- The bytes after an op-code, from the words that hold them.
 use Prim.Native.Nat.{ℕ, ◌+◌, ◌*◌, ◌/◌, ◌%◌, ◌<◌}
 use mathlib.Core.Path.{◌≡◌, ap}
 use mathlib.Core.List.{List}

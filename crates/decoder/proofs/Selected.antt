@@ -1,4 +1,4 @@
--- The page that the first byte selects, and the lengths of its op_codes.
+-- The page that the first byte selects, and the lengths of its op-codes.
 use Prim.Native.Nat.{ℕ, ◌/◌, ◌%◌, ◌*◌, ◌^◌, ◌<◌}
 use mathlib.Core.Path.{◌≡◌, refl, ap, sym, ◌∙◌}
 use mathlib.Core.List.{List}

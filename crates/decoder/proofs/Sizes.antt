@@ -1,4 +1,4 @@
--- What the bytes on a page are, by the tests that its function makes: n is the length of their op_code.
+-- What the bytes on a page are, by the tests that its function makes: n is the length of their op-code.
 use Prim.Native.Nat.{ℕ, ◌≤◌, ◌<◌}
 use mathlib.Core.Path.{◌≡◌}
 use mathlib.Core.List.{List}

@@ -7,7 +7,7 @@ use Rattle.stm8.specs.declared.Decoded.{Decoded}
 use Rattle.stm8.specs.declared.Decoded.TheVariants.{Truncated}
 use Rattle.opcodes.specs.Entries.{or_else}
 
--- the bytes on a page whose op_code has n bytes, where a blank entry counts as i
+-- the bytes on a page whose op-code has n bytes, where a blank entry counts as i
 unfoldable pub decoded_or : Instruction → Page → ℕ → List ℕ → Decoded
 decoded_or i page n s = cond (leb (length s) (precodes page)) Truncated (sized n (Is (or_else i (entry_in page s))) (length s))
 

@@ -1,4 +1,4 @@
--- What the functions under `encode` give, with the op_codes that it hands them, is what the definitions say.
+-- What the functions under `encode` give, with the op-codes that it hands them, is what the definitions say.
 use Prim.Native.Nat.{ℕ, suc, ◌+◌}
 use mathlib.Core.Path.{◌≡◌, refl}
 use mathlib.Core.Bool.{Bool, true, false, cond}
@@ -38,7 +38,7 @@ mov_short_lem to = elim [ Accumulator ↦ refl | Immediate n ↦ refl | Immediat
 pub mov_long_lem : (to : ℕ) (x : Operand) → appended_word (operand_form 0 0 0x35 0 0 0x55 0 x) to ≡ padded (mov_long to x)
 mov_long_lem to = elim [ Accumulator ↦ refl | Immediate n ↦ refl | ImmediateWord w ↦ refl | Short n ↦ refl | Long w ↦ refl | Indexed r f ↦ refl | Sp n ↦ refl ]
 
--- a row's op_code is not 0
+-- a row's op-code is not 0
 row : (n k : ℕ) → eqb (suc n + k) 0 ≡ false
 row n k = ne_eqb (suc n + k) 0 (λ e. omega (arith, e))
 

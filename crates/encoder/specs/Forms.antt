@@ -13,7 +13,7 @@ abbrev pub register_precode : Register → ℕ
 register_precode X = 0
 register_precode Y = 0x90
 
--- pre-code and op_code; a pre-code 0 is none, and an op_code 0 no instruction
+-- pre-code and op-code; a pre-code 0 is none, and an op-code 0 no instruction
 abbrev pub opcode_bytes : ℕ → ℕ → List ℕ
 opcode_bytes precode code = cond (eqb code 0) [] (cond (eqb precode 0) (code ∷ []) (precode ∷ code ∷ []))
 
@@ -26,7 +26,7 @@ appended e byte =
 abbrev pub appended_word : Encoded → ℕ → Encoded
 appended_word e w = appended (appended e (high w)) (low w)
 
--- an instruction by the form of its operand, an op_code for each form
+-- an instruction by the form of its operand, an op-code for each form
 abbrev pub operand_form : ℕ → ℕ → ℕ → ℕ → ℕ → ℕ → ℕ → Operand → Encoded
 operand_form precode accumulator immediate word short long sp Accumulator = padded (opcode_bytes 0 accumulator)
 operand_form precode accumulator immediate word short long sp (Immediate n) = appended (padded (opcode_bytes 0 immediate)) n

@@ -9,7 +9,7 @@ use libc::{STDIN_FILENO, STDOUT_FILENO};
 
 // One byte more than the largest input that is not refused: 12 bytes of limits, a header of 8, 32 lengths of 2 and 4,096 code bytes. A longer
 // input is refused with 1, 2 or 3, which its first 17 bytes decide, or else with 4, since the file does not end with the code: its first 4,181
-// bytes print the same (`long-input` in the crate `listing`).
+// bytes print the same (`long_input` in the crate `listing`).
 const INPUT: usize = 4181;
 
 // One for each code byte of any image, so that 5 is never given.

@@ -44,7 +44,7 @@ spells_not_lf : {digits bytes : List ℕ} (x : List ℕ) → NoLf x → Spells d
 spells_not_lf x e none = e
 spells_not_lf x e (more h k rest) = Spelling.more (declared_not_lf h) (Spelling.more (declared_not_lf k) (spells_not_lf x e rest))
 
--- what reading makes of a well_formed_lem line
+-- what reading makes of a well-formed line
 pub record Told (text : List ℕ) (address type : ℕ) (contents : List ℕ) : Type 0 where
   pub body : List ℕ
   pub is : text ≡ body ++ 0x0A ∷ []

@@ -1,4 +1,4 @@
--- What a well_formed_lem line says, looked up in its characters.
+-- What a well-formed line says, looked up in its characters.
 use Prim.Native.Nat.{ℕ, ◌+◌, ◌<◌, ◌≤◌}
 use mathlib.Core.Path.{◌≡◌, sym, ap, ◌∙◌}
 use mathlib.Core.Bool.{Bool, true, false, cond}

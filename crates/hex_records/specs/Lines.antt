@@ -1,4 +1,4 @@
--- What a well_formed_lem line is, with no reading in it.
+-- What a well-formed line is, with no reading in it.
 use Rattle.std.specs.Prelude.{ℕ, ◌≤◌, ◌≡◌, List, [], ◌∷◌, ◌++◌, length}
 use Rattle.hex_records.specs.Digits.{Spells}
 use Rattle.hex_records.specs.Records.{record_bytes}

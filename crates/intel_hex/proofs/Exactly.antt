@@ -63,7 +63,7 @@ begins_base text address type contents rest b =
     feed_base [] t.body rest t.plain ∙
     rw (t.bytes, address_of address type contents)
 
--- a well_formed_lem line is refused by its type and its place only
+-- a well-formed line is refused by its type and its place only
 begins_check : (place : Place) (text : List ℕ) (address type : ℕ) (contents rest : List ℕ) → Open place → Begins text address type contents rest →
     line_check place (record_bytes address type contents) ≡ first (under 1 type 31) (first (cond (eqb type 0) (follow_check place address) 0) 0)
 unfolding line_check first_in

@@ -6,7 +6,7 @@ use Rattle.hex_records.specs.declared.Place.TheVariants.{Next, Ended}
 use Rattle.intel_hex.specs.Texts.{refused}
 use Rattle.intel_hex.specs.declared.Found.{Found}
 
--- a text begins with a well_formed_lem line
+-- a text begins with a well-formed line
 pub record Begins (text : List ℕ) (address type : ℕ) (contents rest : List ℕ) : Type 0 where
   pub front : List ℕ
   pub line : Line front address type contents

@@ -1,4 +1,4 @@
--- The figures of the op_code map, row by row: typed once more from the manual's pages, by op_code, and held against the cycles of what stands there, whatever
+-- The figures of the op-code map, row by row: typed once more from the manual's pages, by op-code, and held against the cycles of what stands there, whatever
 -- bytes come after. A row is one number, a digit of four bits for each column, column 0 on the right; 0 is an entry outside the set. These are the figures
 -- where no branch is taken, and one that is costs one cycle more (`figures` in CycleLaws).
 use Prim.Native.Nat.{ℕ, ◌+◌, ◌*◌}

@@ -35,7 +35,7 @@ use Rattle.stm8.specs.declared.FlagOp.TheVariants.{Ccf, Rcf, Rvf, Scf}
 use Rattle.stm8.specs.declared.Instruction.{Instruction}
 use Rattle.stm8.specs.declared.Instruction.TheVariants.{Alu, Store, LoadHalf, StoreHalf, Modify, LoadWord, StoreWord, CopyWord, WordAlu, WordModify, Pushw, Popw, Exgw, Mul, Bit, BitJump, Mov, Push, Pop, SubSp, AddSp, Jump, Call, Callr, Ret, Nop, Flag}
 
--- what the map has at the front of bytes, whether they have an op_code, and whether they are at most five
+-- what the map has at the front of bytes, whether they have an op-code, and whether they are at most five
 data Seen : Type 0 where
   seen : Entry → Bool → Bool → Seen
 
@@ -147,7 +147,7 @@ module _ (rest : List ℕ) where
   mov_back (Long v) (Indexed r f) t = absurd t
   mov_back (Long v) (Sp n) t = absurd t
 
-  -- a bit position in range has its op_code
+  -- a bit position in range has its op-code
   abbrev bit_bytes : BitOp → ℕ → ℕ → List ℕ
   bit_bytes o w n = bit_precode o ∷ (bit_code o + 2 * n) ∷ high w ∷ low w ∷ []
 

@@ -27,7 +27,7 @@ abbrev taken : Entry → List ℕ → List ℕ
 taken Blank s = []
 taken (Is i) s = take (length (bytes_of i)) s
 
--- an op_code with its pre-code and the bytes after it
+-- an op-code with its pre-code and the bytes after it
 abbrev laid : Page → ℕ → ℕ → ℕ → ℕ → ℕ → List ℕ
 laid Plain op a b c d = op ∷ a ∷ b ∷ c ∷ d ∷ []
 laid After72 op a b c d = 0x72 ∷ op ∷ a ∷ b ∷ c ∷ d ∷ []

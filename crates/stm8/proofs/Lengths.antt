@@ -1,4 +1,4 @@
--- The three tables hold the length of what each of the 768 op_codes decodes to, 0 outside the set, whatever bytes come after it.
+-- The three tables hold the length of what each of the 768 op-codes decodes to, 0 outside the set, whatever bytes come after it.
 use mathlib.Core.Path.{◌≡◌, refl, ap, ◌∙◌}
 use mathlib.Core.List.{List}
 use Prim.Native.Nat.{ℕ, ◌<◌}
@@ -8,7 +8,7 @@ use Rattle.numbers.proofs.Computing.{below, table_at}
 use Rattle.stm8.specs.OpcodeMap.{Page, Plain, After72, After90, entry}
 use Rattle.stm8.specs.Decoding.{page_of, precodes, entry_in, length_of, lengths, decoded_in, decoded, table_of, decoded_by, map_lengths}
 
--- the computed test: the bytes after an op_code do not change its length
+-- the computed test: the bytes after an op-code do not change its length
 same_length : (page : Page) (a b c d op : ℕ) → op < 256 → length_of (entry page op 0 0 0 0) ≡ length_of (entry page op a b c d)
 same_length Plain a b c d = below 255 (λ op. length_of (entry Plain op 0 0 0 0)) (λ op. length_of (entry Plain op a b c d)) refl
 same_length After72 a b c d = below 255 (λ op. length_of (entry After72 op 0 0 0 0)) (λ op. length_of (entry After72 op a b c d)) refl

@@ -6,7 +6,7 @@ use Rattle.stm8.specs.Encoding.{bytes_of}
 use Rattle.stm8.specs.declared.Decoded.{Decoded}
 use Rattle.stm8.specs.declared.Decoded.TheVariants.{Found, Outside, Truncated}
 
--- the page that a first byte selects, and the bytes in front of its op_code
+-- the page that a first byte selects, and the bytes in front of its op-code
 abbrev pub page_of : ℕ → Page
 page_of first = cond (eqb first 0x72) After72 (cond (eqb first 0x90) After90 Plain)
 
@@ -21,12 +21,12 @@ entry_in page s =
     entry page (get_or s (precodes page) 0)
     (get_or s (precodes page + 1) 0) (get_or s (precodes page + 2) 0) (get_or s (precodes page + 3) 0) (get_or s (precodes page + 4) 0)
 
--- the length of an entry: 0 outside the set, else pre-code, op_code and operand bytes
+-- the length of an entry: 0 outside the set, else pre-code, op-code and operand bytes
 abbrev pub length_of : Entry → ℕ
 length_of Blank = 0
 length_of (Is i) = length (bytes_of i)
 
--- the lengths of a page's 256 op_codes: that they hold whatever bytes come after is a theorem
+-- the lengths of a page's 256 op-codes: that they hold whatever bytes come after is a theorem
 unfoldable pub lengths : Page → List ℕ
 lengths page = table (λ op. length_of (entry page op 0 0 0 0))
 
@@ -38,7 +38,7 @@ found_as n (Is i) = Found i n
 abbrev pub sized : ℕ → Entry → ℕ → Decoded
 sized n e room = cond (eqb n 0) Outside (cond (ltb room n) Truncated (found_as n e))
 
--- the bytes on a page whose entry has n bytes; bytes that end before an op_code, none at all or a pre-code alone, are cut short too
+-- the bytes on a page whose entry has n bytes; bytes that end before an op-code, none at all or a pre-code alone, are cut short too
 abbrev pub decoded_in : Page → ℕ → List ℕ → Decoded
 decoded_in page n s = cond (leb (length s) (precodes page)) Truncated (sized n (entry_in page s) (length s))
 

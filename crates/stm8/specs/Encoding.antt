@@ -29,7 +29,7 @@ use Rattle.stm8.specs.declared.Instruction.{Instruction}
 use Rattle.stm8.specs.declared.Instruction.TheVariants.{Alu, Store, LoadHalf, StoreHalf, Modify, LoadWord, StoreWord, CopyWord, WordAlu, WordModify, Pushw, Popw, Exgw, Mul, Bit, BitJump, Mov, Push, Pop, SubSp, AddSp, Jump, Call, Callr, Ret, Nop, Flag}
 use Rattle.stm8.specs.declared.Encoded.{Encoded}
 
--- the low digit of an operation's op_codes
+-- the low digit of an operation's op-codes
 abbrev pub alu_column : AluOp → ℕ
 alu_column Sub = 0
 alu_column Cp = 1
@@ -159,7 +159,7 @@ store_word_bytes r (Long w) = on_register r (0xcf ∷ high w ∷ low w ∷ [])
 store_word_bytes r (Indexed q f) = []
 store_word_bytes r (Sp n) = store_word_sp r ∷ n ∷ []
 
--- CPW Y is CPW X after 90; ADDW Y and SUBW Y have op_codes of their own after 72
+-- CPW Y is CPW X after 90; ADDW Y and SUBW Y have op-codes of their own after 72
 abbrev pub word_alu_bytes : WordAluOp → Register → ℕ → List ℕ
 word_alu_bytes Addw X w = 0x1c ∷ high w ∷ low w ∷ []
 word_alu_bytes Addw Y w = 0x72 ∷ 0xa9 ∷ high w ∷ low w ∷ []
@@ -172,7 +172,7 @@ word_modify_code Decw = 0x5a
 word_modify_code Incw = 0x5c
 word_modify_code Clrw = 0x5f
 
--- a bit operation's pre-code, and its op_code at bit 0: n = 2 * pos, one more for BRES, BCCM and BTJF
+-- a bit operation's pre-code, and its op-code at bit 0: n = 2 * pos, one more for BRES, BCCM and BTJF
 abbrev pub bit_precode : BitOp → ℕ
 bit_precode Bset = 0x72
 bit_precode Bres = 0x72

@@ -1,6 +1,6 @@
--- The op_code map of the gate set, to be held against the manual's: three pages (no pre-code, pre-code 72, pre-code 90) of sixteen rows, by the
--- op-code's high digit, of sixteen columns, by its low digit. a, b, c, d are the bytes after the op_code; a word stands high byte first.
--- A row that is [], or that is not there, has no op_code of the set.
+-- The op-code map of the gate set, to be held against the manual's: three pages (no pre-code, pre-code 72, pre-code 90) of sixteen rows, by the
+-- op-code's high digit, of sixteen columns, by its low digit. a, b, c, d are the bytes after the op-code; a word stands high byte first.
+-- A row that is [], or that is not there, has no op-code of the set.
 use Rattle.std.specs.Prelude.{ℕ, ◌/◌, ◌%◌, List, [], ◌∷◌, get_or, set, replicate}
 use Rattle.numbers.specs.Words.{word}
 use Rattle.stm8.specs.declared.Register.{Register}
@@ -20,7 +20,7 @@ use Rattle.stm8.specs.declared.FlagOp.TheVariants.{Ccf, Rcf, Rvf, Scf}
 use Rattle.stm8.specs.declared.Instruction.{Instruction}
 use Rattle.stm8.specs.declared.Instruction.TheVariants.{Alu, Store, LoadHalf, StoreHalf, Modify, LoadWord, StoreWord, CopyWord, WordAlu, WordModify, Pushw, Popw, Exgw, Mul, Bit, BitJump, Mov, Push, Pop, SubSp, AddSp, Jump, Call, Callr, Ret, Nop, Flag}
 
--- the three op_code pages
+-- the three op-code pages
 pub data Page : Type 0 where
   Plain : Page
   After72 : Page
@@ -204,6 +204,6 @@ rows Plain a b c d = plain_page a b c d
 rows After72 a b c d = after72_page a b c
 rows After90 a b c d = after90_page a b
 
--- the entry at an op_code of a page, with the bytes after it
+-- the entry at an op-code of a page, with the bytes after it
 abbrev pub entry : Page → ℕ → ℕ → ℕ → ℕ → ℕ → Entry
 entry page op a b c d = get_or (get_or (rows page a b c d) (op / 16) []) (op % 16) Blank

@@ -1,4 +1,4 @@
--- `cycle_cases::plain_page` is safe and ends: each turn passes an op_code.
+-- `cycle_cases::plain_page` is safe and ends: each turn passes an op-code.
 use Prim.Native.Nat.{◌≤◌, ◌-◌}
 use native.Mathlib.Omega.{arith}
 use borrow.Author.Rules.{rules}
