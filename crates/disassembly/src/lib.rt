@@ -1,4 +1,6 @@
 // The text of an instruction in the manual's assembler column notation.
+#![tactic(auto)]
+
 mod instructions;
 
 ghost use Rattle.std.specs.Prelude.{◌≡◌};
@@ -24,6 +26,6 @@ pub fn disassemble(i: Instruction, address: u16, buffer: &mut [u8]) -> Written
     if buffer.len() < n {
         return Written::TooShort;
     }
-    bytes::copy(&letters[..n], buffer);
+    slices::copy(&letters[..n], buffer);
     Written::Bytes(n)
 }

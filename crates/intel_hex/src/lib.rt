@@ -1,4 +1,6 @@
 // An image's code as Intel HEX, and back. A text is judged line by line before a byte of an image is written.
+#![tactic(auto)]
+
 mod copying;
 mod header;
 mod input;

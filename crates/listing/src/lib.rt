@@ -1,4 +1,6 @@
 // The lines of a verdict, as document 01's verdict program prints them: what the check says, then address, depth and text of each start.
+#![tactic(auto)]
+
 mod lines;
 mod writing;
 
