@@ -4,67 +4,71 @@
 
 use cycles::Timed;
 use disassembly::{LONGEST, Written};
-use libc::STDOUT_FILENO;
 use notation::hex_digit;
+use std::io;
+use std::io::Write;
 use stm8::{Cycles, Decoded, Instruction};
 use timing::decode_timed;
 
 const ADDRESS: u16 = 0x8000;
 
-fn print(text: &[u8]) {
-    io::write_all(STDOUT_FILENO, text);
+fn print(out: &mut impl Write, text: &[u8]) -> io::Result<()> {
+    out.write_all(text)
 }
 
-fn print_byte(byte: u8) {
-    print(&[hex_digit(byte / 16), hex_digit(byte)]);
+fn print_byte(out: &mut impl Write, byte: u8) -> io::Result<()> {
+    print(out, &[hex_digit(byte / 16), hex_digit(byte)])
 }
 
-fn print_cycles(cycles: Cycles) {
-    print(b" ");
-    io::print_decimal(STDOUT_FILENO, cycles.untaken as u64);
-    print(b" ");
-    io::print_decimal(STDOUT_FILENO, cycles.taken as u64);
+fn print_cycles(out: &mut impl Write, cycles: Cycles) -> io::Result<()> {
+    print(out, b" ")?;
+    let untaken = cycles.untaken;
+    let taken = cycles.taken;
+    write!(out, "{untaken} {taken}")
 }
 
-fn print_text(i: Instruction) {
+fn print_text(out: &mut impl Write, i: Instruction) -> io::Result<()> {
     let mut buffer = [0u8; LONGEST];
     let Written::Bytes(n) = disassembly::disassemble(i, ADDRESS, &mut buffer) else {
-        return;
+        return Ok(());
     };
-    print(b" ");
-    print(&buffer[..n]);
+    print(out, b" ")?;
+    print(out, &buffer[..n])
 }
 
 // The line of an op-code after its pre-code's text. An op-code outside the set has none.
-fn line(pre_code: &[u8], op: u8, timed: Timed) {
+fn line(out: &mut impl Write, pre_code: &[u8], op: u8, timed: Timed) -> io::Result<()> {
     let decoded = timed.decoded;
     let Decoded::Found(i, _) = decoded else {
-        return;
+        return Ok(());
     };
-    print(pre_code);
-    print_byte(op);
-    print_cycles(timed.cycles);
-    print_text(i);
-    print(b"\n");
+    print(out, pre_code)?;
+    print_byte(out, op)?;
+    print_cycles(out, timed.cycles)?;
+    print_text(out, i)?;
+    print(out, b"\n")
 }
 
 // The page without pre-code, where 72 and 90 are no op-codes.
-fn plain_page() {
+fn plain_page(out: &mut impl Write) -> io::Result<()> {
     for op in 0..=255 {
         if op != 0x72 && op != 0x90 {
-            line(b"", op, decode_timed(&[op, 0, 0, 0, 0]));
+            line(out, b"", op, decode_timed(&[op, 0, 0, 0, 0]))?;
         }
     }
+    Ok(())
 }
 
-fn page_after(pre_code: u8, text: &[u8]) {
+fn page_after(out: &mut impl Write, pre_code: u8, text: &[u8]) -> io::Result<()> {
     for op in 0..=255 {
-        line(text, op, decode_timed(&[pre_code, op, 0, 0, 0]));
+        line(out, text, op, decode_timed(&[pre_code, op, 0, 0, 0]))?;
     }
+    Ok(())
 }
 
-fn main() {
-    plain_page();
-    page_after(0x72, b"72 ");
-    page_after(0x90, b"90 ");
+fn main(rt: HostRuntime) -> io::Result<()> {
+    let mut out = rt.stdout();
+    plain_page(&mut out)?;
+    page_after(&mut out, 0x72, b"72 ")?;
+    page_after(&mut out, 0x90, b"90 ")
 }

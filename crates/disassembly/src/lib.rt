@@ -26,6 +26,6 @@ pub fn disassemble(i: Instruction, address: u16, buffer: &mut [u8]) -> Written
     if buffer.len() < n {
         return Written::TooShort;
     }
-    bytes::copy(&letters[..n], buffer);
+    slices::copy(&letters[..n], buffer);
     Written::Bytes(n)
 }

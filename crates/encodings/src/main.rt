@@ -2,10 +2,12 @@
 // its bytes in hexadecimal, with the instruction at 8000.
 #![tactic(auto)]
 
+use console::read_full;
 use disassembly::{LONGEST, Written};
 use hexadecimal::parse;
-use libc::STDOUT_FILENO;
+use slices::find;
 use std::num::wrapping_add_u64;
+use std::{fs, io};
 use stm8::{Decoded, Instruction};
 
 const ADDRESS: u16 = 0x8000;
@@ -50,7 +52,7 @@ fn differences(text: &[u8], code: Code) -> u64 {
 
 // The same of a line, without its end.
 fn line_differences(line: &[u8]) -> u64 {
-    let tab = bytes::scan::find(line, 0, line.len(), b'\t');
+    let tab = find(line, 0, line.len(), b'\t');
     if line.len() <= tab {
         return 3;
     }
@@ -64,7 +66,7 @@ fn compare(file: &[u8]) -> Totals {
     let mut differences = 0;
     let mut at = 0;
     while at < file.len() {
-        let end = bytes::scan::find(file, at, file.len(), b'\n');
+        let end = find(file, at, file.len(), b'\n');
         differences = wrapping_add_u64(differences, line_differences(&file[at..end]));
         lines = wrapping_add_u64(lines, 1);
         at = end + 1;
@@ -72,19 +74,12 @@ fn compare(file: &[u8]) -> Totals {
     Totals { lines, differences }
 }
 
-fn main() {
-    let path = b"encodings.txt";
-    let fd = os::open_read(path);
-    if fd < 0 {
-        os::fail(path);
-        return;
-    }
-    let mut buffer = io::large_buffer();
-    let n = io::read_full(fd, &mut buffer);
-    libc::close(fd);
+fn main(rt: HostRuntime) -> io::Result<()> {
+    let mut file = fs::open(&rt, "encodings.txt")?;
+    let mut buffer = [0u8; 65536];
+    let n = read_full(&mut file, &mut buffer)?;
     let totals = compare(&buffer[..n]);
-    io::print_decimal(STDOUT_FILENO, totals.lines);
-    io::write_all(STDOUT_FILENO, b" lines, ");
-    io::print_decimal(STDOUT_FILENO, totals.differences);
-    io::write_all(STDOUT_FILENO, b" differences\n");
+    let lines = totals.lines;
+    let differences = totals.differences;
+    println!(rt; "{lines} lines, {differences} differences")
 }

@@ -1,15 +1,17 @@
 // Replays the checks, starts and turns of the conformance corpus (conformance/README.md has the fields of a line and the forms of an answer): prints
-// each line of standard input anew, with what checking, starting and running to the end, or the turn comes to. No contract can speak of what is printed.
+// each line of standard input anew, with what checking, starting and running to the end, or the turn comes to. No contract speaks of what is printed.
 #![tactic(auto)]
 
 ghost use Rattle.std.specs.Prelude.{◌≡◌, ◌/◌, ◌%◌, ◌<◌, ◌≤◌, false, length, if◌then◌else◌, nat_le, nat_lt};
 
-use bytes::scan::find;
+use console::read_full;
 use gate::{Area, Limits, Registers, RunAnswer, Started, StepAnswer, TurnAnswer, Verdict};
 use hexadecimal::parse;
 use image::limits_of;
-use libc::{STDIN_FILENO, STDOUT_FILENO};
 use numbers::words::{byte_at, word_at};
+use slices::find;
+use std::io;
+use std::io::Write;
 use std::num::{wrapping_add_u16, wrapping_add_u64, wrapping_sub_u16};
 use vectors::{byte_text, registers_text, word_text};
 
@@ -21,55 +23,56 @@ struct Progress {
     cycles: u64,
 }
 
-fn print(text: &[u8]) {
-    io::write_all(STDOUT_FILENO, text);
+fn print(out: &mut impl Write, text: &[u8]) -> io::Result<()> {
+    out.write_all(text)
 }
 
-fn print_number(name: &[u8], number: u64) {
-    print(name);
-    io::print_decimal(STDOUT_FILENO, number);
+fn print_number(out: &mut impl Write, name: &[u8], number: u64) -> io::Result<()> {
+    print(out, name)?;
+    write!(out, "{number}")
 }
 
-fn print_byte(byte: u8) {
-    print(b" ");
-    print(&byte_text(byte));
+fn print_byte(out: &mut impl Write, byte: u8) -> io::Result<()> {
+    print(out, b" ")?;
+    print(out, &byte_text(byte))
 }
 
-fn print_digest(name: &[u8], digest: u32) {
-    print(name);
-    print(&word_text((digest / 65536) as u16));
-    print(&word_text((digest % 65536) as u16));
+fn print_digest(out: &mut impl Write, name: &[u8], digest: u32) -> io::Result<()> {
+    print(out, name)?;
+    print(out, &word_text((digest / 65536) as u16))?;
+    print(out, &word_text((digest % 65536) as u16))
 }
 
-fn print_figures(word: &[u8], a: u16, b: u16) {
-    print_number(word, a as u64);
-    print_number(b" ", b as u64);
+fn print_figures(out: &mut impl Write, word: &[u8], a: u16, b: u16) -> io::Result<()> {
+    print_number(out, word, a as u64)?;
+    print_number(out, b" ", b as u64)
 }
 
-fn print_verdict(v: Verdict) {
+fn print_verdict(out: &mut impl Write, v: Verdict) -> io::Result<()> {
     match v {
-        Verdict::Accepted(need, count) => print_figures(b"accepted ", need, count),
-        Verdict::Refused(number, offset) => print_figures(b"refused ", number as u16, offset),
+        Verdict::Accepted(need, count) => print_figures(out, b"accepted ", need, count),
+        Verdict::Refused(number, offset) => print_figures(out, b"refused ", number as u16, offset),
     }
 }
 
-fn print_marks(marks: &[u16]) {
-    print(b", marks");
+fn print_marks(out: &mut impl Write, marks: &[u16]) -> io::Result<()> {
+    print(out, b", marks")?;
     let mut i = 0;
     while i < marks.len() {
-        print_number(b" ", marks[i] as u64);
+        print_number(out, b" ", marks[i] as u64)?;
         i += 1;
     }
+    Ok(())
 }
 
 // The top three stack bytes.
-fn print_top(memory: &[u8], high: u16) {
+fn print_top(out: &mut impl Write, memory: &[u8], high: u16) -> io::Result<()> {
     let at = wrapping_sub_u16(high, 2);
-    print(b", ");
-    print(&word_text(at));
-    print_byte(byte_at(memory, at as usize));
-    print_byte(byte_at(memory, at as usize + 1));
-    print_byte(byte_at(memory, at as usize + 2));
+    print(out, b", ")?;
+    print(out, &word_text(at))?;
+    print_byte(out, byte_at(memory, at as usize))?;
+    print_byte(out, byte_at(memory, at as usize + 1))?;
+    print_byte(out, byte_at(memory, at as usize + 2))
 }
 
 // Fills memory with bytes that differ from their neighbours.
@@ -135,17 +138,24 @@ fn used_bytes(stack: Area, need: u16) -> Area
 }
 
 // Registers, the top of the stack, and the digests of all memory and of what lies outside the grants and the stack bytes used.
-fn print_state(registers: Registers, memory: &[u8], limits: Limits, need: u16) {
+fn print_state(
+    out: &mut impl Write,
+    registers: Registers,
+    memory: &[u8],
+    limits: Limits,
+    need: u16,
+) -> io::Result<()> {
     let stack = limits.stack;
     let nowhere = Area { low: 1, high: 0 };
-    print(b": ");
-    print(&registers_text(registers));
-    print_top(memory, stack.high);
-    print_digest(b", memory ", digest(memory, nowhere, nowhere, nowhere));
+    print(out, b": ")?;
+    print(out, &registers_text(registers))?;
+    print_top(out, memory, stack.high)?;
+    print_digest(out, b", memory ", digest(memory, nowhere, nowhere, nowhere))?;
     print_digest(
+        out,
         b", outside ",
         digest(memory, limits.grant, limits.second, used_bytes(stack, need)),
-    );
+    )
 }
 
 // How many steps the k-th piece has.
@@ -217,22 +227,23 @@ fn pieces(image: &[u8], limits: Limits, from: Registers, memory: &mut [u8]) -> P
 
 // One run to the end, and a run in pieces on a memory like the first.
 fn print_runs(
+    out: &mut impl Write,
     image: &[u8],
     limits: Limits,
     need: u16,
     start: Registers,
     memory: &mut [u8],
     other: &mut [u8],
-) {
+) -> io::Result<()> {
     let timed = gate::run(image, limits, start, memory, 4294967295);
     let ran = timed.ran;
-    print_number(b"; whole, steps ", ran.steps as u64);
-    print_number(b", cycles ", timed.cycles);
-    print_state(ran.registers, memory, limits, need);
+    print_number(out, b"; whole, steps ", ran.steps as u64)?;
+    print_number(out, b", cycles ", timed.cycles)?;
+    print_state(out, ran.registers, memory, limits, need)?;
     let cut = pieces(image, limits, start, other);
-    print_number(b"; pieces, steps ", cut.steps);
-    print_number(b", cycles ", cut.cycles);
-    print_state(cut.registers, other, limits, need);
+    print_number(out, b"; pieces, steps ", cut.steps)?;
+    print_number(out, b", cycles ", cut.cycles)?;
+    print_state(out, cut.registers, other, limits, need)
 }
 
 // Starts a case's image with its registers, on memory that is filled first.
@@ -253,134 +264,163 @@ fn start(case: &[u8], image: &[u8], marks: &mut [u16], memory: &mut [u8]) -> Sta
 }
 
 // What comes of a start, and of the runs where it is accepted.
-fn start_case(case: &[u8], image: &[u8], marks: &mut [u16], memory: &mut [u8], other: &mut [u8]) {
+fn start_case(
+    out: &mut impl Write,
+    case: &[u8],
+    image: &[u8],
+    marks: &mut [u16],
+    memory: &mut [u8],
+    other: &mut [u8],
+) -> io::Result<()> {
     let limits = limits_of(case);
     let started = start(case, image, marks, memory);
     let verdict = started.verdict;
     let registers = started.registers;
-    print_verdict(verdict);
-    print_marks(marks);
-    print(b"; start");
+    print_verdict(out, verdict)?;
+    print_marks(out, marks)?;
+    print(out, b"; start")?;
     match verdict {
-        Verdict::Refused(_, _) => print_state(registers, memory, limits, 0),
+        Verdict::Refused(_, _) => print_state(out, registers, memory, limits, 0),
         Verdict::Accepted(need, _) => {
-            print_state(registers, memory, limits, need);
+            print_state(out, registers, memory, limits, need)?;
             let _again = start(case, image, marks, other);
-            print_runs(image, limits, need, registers, memory, other);
+            print_runs(out, image, limits, need, registers, memory, other)
         }
     }
 }
 
-fn check_case(image: &[u8], limits: Limits, marks: &mut [u16]) {
-    print_verdict(gate::check(image, limits, marks));
-    print_marks(marks);
+fn check_case(
+    out: &mut impl Write,
+    image: &[u8],
+    limits: Limits,
+    marks: &mut [u16],
+) -> io::Result<()> {
+    print_verdict(out, gate::check(image, limits, marks))?;
+    print_marks(out, marks)
 }
 
-fn print_turn(answer: TurnAnswer) {
+fn print_turn(out: &mut impl Write, answer: TurnAnswer) -> io::Result<()> {
     match answer {
-        TurnAnswer::Refused(number, offset) => print_figures(b"refused ", number as u16, offset),
-        TurnAnswer::NoTurn => print(b"none"),
-        TurnAnswer::Over => print(b"over"),
-        TurnAnswer::Within(most) => print_number(b"within ", most as u64),
+        TurnAnswer::Refused(number, offset) => print_figures(
+            out,
+            b"refused ",
+            number as u16,
+            offset,
+        ),
+        TurnAnswer::NoTurn => print(out, b"none"),
+        TurnAnswer::Over => print(out, b"over"),
+        TurnAnswer::Within(most) => print_number(out, b"within ", most as u64),
     }
 }
 
-fn print_ran(answer: RunAnswer, steps: u32) {
+fn print_ran(out: &mut impl Write, answer: RunAnswer, steps: u32) -> io::Result<()> {
     match answer {
-        RunAnswer::Finished => print(b"finished"),
-        RunAnswer::Spent => print(b"spent"),
-        RunAnswer::Trap(number) => print_number(b"trap ", number as u64),
-        RunAnswer::Refused(number) => print_number(b"refused ", number as u64),
+        RunAnswer::Finished => print(out, b"finished")?,
+        RunAnswer::Spent => print(out, b"spent")?,
+        RunAnswer::Trap(number) => print_number(out, b"trap ", number as u64)?,
+        RunAnswer::Refused(number) => print_number(out, b"refused ", number as u64)?,
     }
-    print_number(b" after ", steps as u64);
+    print_number(out, b" after ", steps as u64)
 }
 
 // A start with zeros on a memory of zeros, and a run with so many steps.
-fn print_run_within(image: &[u8], limits: Limits, marks: &mut [u16], most: u32) {
+fn print_run_within(
+    out: &mut impl Write,
+    image: &[u8],
+    limits: Limits,
+    marks: &mut [u16],
+    most: u32,
+) -> io::Result<()> {
     let mut memory = [0u8; 32768];
     let started = gate::start(image, limits, marks, &mut memory, 0, 0, 0, 0);
     let timed = gate::run(image, limits, started.registers, &mut memory, most);
     let ran = timed.ran;
     let answer = ran.answer;
-    print(b"; ");
-    print_ran(answer, ran.steps);
+    print(out, b"; ")?;
+    print_ran(out, answer, ran.steps)
 }
 
 // What a turn is, and a run within it.
-fn turn_case(image: &[u8], limits: Limits, marks: &mut [u16]) {
+fn turn_case(
+    out: &mut impl Write,
+    image: &[u8],
+    limits: Limits,
+    marks: &mut [u16],
+) -> io::Result<()> {
     let answer = gate::turn(image, limits, marks);
-    print_turn(answer);
-    print_marks(marks);
+    print_turn(out, answer)?;
+    print_marks(out, marks)?;
     match answer {
-        TurnAnswer::Refused(_, _) => (),
-        TurnAnswer::NoTurn => (),
-        TurnAnswer::Over => (),
-        TurnAnswer::Within(most) => print_run_within(image, limits, marks, most),
+        TurnAnswer::Refused(_, _) => Ok(()),
+        TurnAnswer::NoTurn => Ok(()),
+        TurnAnswer::Over => Ok(()),
+        TurnAnswer::Within(most) => print_run_within(out, image, limits, marks, most),
     }
 }
 
 // The answer of a case by its kind's first letter. One that is cut short has none.
-fn print_answer(kind: u8, case: &[u8], marks: &mut [u16]) {
+fn print_answer(out: &mut impl Write, kind: u8, case: &[u8], marks: &mut [u16]) -> io::Result<()> {
     if case.len() < 13 {
-        return;
+        return Ok(());
     }
     if kind == b'c' {
-        check_case(&case[13..], limits_of(case), marks);
-        return;
+        return check_case(out, &case[13..], limits_of(case), marks);
     }
     if kind == b't' {
-        turn_case(&case[13..], limits_of(case), marks);
-        return;
+        return turn_case(out, &case[13..], limits_of(case), marks);
     }
     if case.len() < 21 {
-        return;
+        return Ok(());
     }
     let mut memory = [0u8; 32769];
     let mut other = [0u8; 32769];
     let size = word_at(case, 13) as usize;
     if size <= 32769 {
         start_case(
+            out,
             case,
             &case[21..],
             marks,
             &mut memory[..size],
             &mut other[..size],
-        );
+        )?;
     }
+    Ok(())
 }
 
 // The case of a line's kind and digits, from the colon on.
-fn case(text: &[u8]) {
+fn case(out: &mut impl Write, text: &[u8]) -> io::Result<()> {
     let mut bytes = [0u8; 512];
     let mut marks = [9u16; 256];
     let kind = byte_at(text, 2);
     let n = parse(text, &mut bytes);
     let cells = byte_at(&bytes, 12) as usize;
-    print_answer(kind, &bytes[..n], &mut marks[..cells]);
+    print_answer(out, kind, &bytes[..n], &mut marks[..cells])
 }
 
 // The line of a case anew: up to its answer as it stands, then the answer that it gets here.
-fn print_case(line: &[u8]) {
+fn print_case(out: &mut impl Write, line: &[u8]) -> io::Result<()> {
     let colon = find(line, 0, line.len(), b':');
     let equals = find(line, colon, line.len(), b'=');
-    print(&line[..equals]);
-    print(b"= ");
-    case(&line[colon..equals]);
-    print(b"\n");
+    print(out, &line[..equals])?;
+    print(out, b"= ")?;
+    case(out, &line[colon..equals])?;
+    print(out, b"\n")
 }
 
 // Each line of a text.
-fn print_cases(text: &[u8]) {
+fn print_cases(out: &mut impl Write, text: &[u8]) -> io::Result<()> {
     let mut at = 0;
     while at < text.len() {
         let end = find(text, at, text.len(), b'\n');
-        print_case(&text[at..end]);
+        print_case(out, &text[at..end])?;
         at = end + 1;
     }
+    Ok(())
 }
 
-fn main() {
-    let mut text = io::large_buffer();
-    let n = io::read_full(STDIN_FILENO, &mut text);
-    print_cases(&text[..n]);
+fn main(rt: HostRuntime) -> io::Result<()> {
+    let mut text = [0u8; 65536];
+    let n = read_full(&mut rt.stdin(), &mut text)?;
+    print_cases(&mut rt.stdout(), &text[..n])
 }

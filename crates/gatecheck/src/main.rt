@@ -5,7 +5,8 @@ ghost use Rattle.std.specs.Prelude.{length};
 ghost use Rattle.gatecheck.specs.Reading.{ReadInto};
 
 use disassembly::Written;
-use libc::{STDIN_FILENO, STDOUT_FILENO};
+use std::io;
+use std::io::{Read, Write};
 
 // One byte more than the largest input that is not refused: 12 bytes of limits, a header of 8, 32 lengths of 2 and 4,096 code bytes. A longer
 // input is refused with 1, 2 or 3, which its first 17 bytes decide, or else with 4, since the file does not end with the code: its first 4,181
@@ -22,23 +23,22 @@ enum Input {
 }
 
 // One read: how many bytes came, none at the input's end.
-fn read_some(buffer: &mut [u8]) -> Input
+fn read_some(input: &mut impl Read, buffer: &mut [u8]) -> Input
     ensures { ReadInto result (length buffer.old) }
 {
-    let got = libc::read(STDIN_FILENO, buffer);
-    if got < 0 {
-        return Input::Failed;
+    match input.read(buffer) {
+        Ok(count) => Input::Bytes(count),
+        Err(_) => Input::Failed,
     }
-    Input::Bytes(io::count(got, buffer))
 }
 
 // Reads until the input ends or the buffer is full, however the bytes arrive.
-fn read_input(buffer: &mut [u8]) -> Input
+fn read_input(input: &mut impl Read, buffer: &mut [u8]) -> Input
     ensures { ReadInto result (length buffer.old) }
 {
     let mut n = 0;
     while n < buffer.len() {
-        let more = read_some(&mut buffer[n..]);
+        let more = read_some(input, &mut buffer[n..]);
         let Input::Bytes(count) = more else {
             return Input::Failed;
         };
@@ -51,24 +51,21 @@ fn read_input(buffer: &mut [u8]) -> Input
 }
 
 // Prints the listing of an input. The buffer has room for any, so it is not refused.
-fn print_listing(input: &[u8]) {
+fn print_listing(out: &mut impl Write, input: &[u8]) -> io::Result<()> {
     let mut marks = [0u16; MARKS];
     let mut buffer = [0u8; listing::LONGEST];
     let written = listing::list_input(input, &mut marks, &mut buffer);
     let Written::Bytes(n) = written else {
-        return;
+        return Ok(());
     };
-    if !io::write_all(STDOUT_FILENO, &buffer[..n]) {
-        os::fail(b"standard output");
-    }
+    out.write_all(&buffer[..n])
 }
 
-fn main() {
+fn main(rt: HostRuntime) -> io::Result<()> {
     let mut buffer = [0u8; INPUT];
-    let input = read_input(&mut buffer);
+    let input = read_input(&mut rt.stdin(), &mut buffer);
     let Input::Bytes(n) = input else {
-        os::fail(b"standard input");
-        return;
+        return Err(io::Error::other("standard input failed"));
     };
-    print_listing(&buffer[..n]);
+    print_listing(&mut rt.stdout(), &buffer[..n])
 }

@@ -9,7 +9,7 @@ use lib.Dec.{eqb}
 use lib.ListN.{length, get_or, take, drop, length-drop, take-append-drop}
 use lib.Seq.{drop-cons, drop-drop, get_or-take, get_or-drop, length-take-le, take-length}
 use borrow.Author.Tests.{ne_eqb, eqb-true, eqb-false}
-use Rattle.bytes.specs.Bytes.{slice, index_after, index_of}
+use Rattle.slices.specs.Bytes.{slice, index_after, index_of}
 use Rattle.hex_records.proofs.Spelling.{NoLf, none, more}
 use Rattle.intel_hex.specs.Internal.{LineEndAt}
 

@@ -3,8 +3,8 @@ ghost use Rattle.std.specs.Prelude.{◌≡◌, ◌+◌, ◌≤◌, length};
 ghost use Rattle.hex_records.specs.Internal.{put_at};
 ghost use Rattle.intel_hex.specs.Texts.{refused, read_text, code_in, base_in};
 
-use bytes::scan::find;
 use hex_records::{address_in, copy_data, data_length};
+use slices::find;
 
 // The address of its first line.
 pub(crate) fn base_in(text: &[u8]) -> u16

@@ -4,8 +4,8 @@ ghost use Rattle.image.specs.Parts.{word_bytes};
 ghost use Rattle.hex_records.specs.Internal.{put_at};
 ghost use Rattle.intel_hex.specs.Internal.{front_bytes, header_bytes};
 
-use bytes::copy;
 use numbers::words::{high, low};
+use slices::copy;
 
 // The bytes before the lengths.
 fn front_of(base: u16, count: u8) -> [u8; 8]

@@ -2,8 +2,8 @@
 ghost use Rattle.std.specs.Prelude.{◌≡◌};
 ghost use Rattle.intel_hex.specs.Internal.{Scans, stopped, ended};
 
-use bytes::scan::find;
 use hex_records::{Place, data_length, judge_line, place_after};
+use slices::find;
 
 // The first offending line of a text: its refusal, 0 for none, and its offset; and the number of code bytes where there is none.
 #[derive(Clone, Copy)]

@@ -22,7 +22,7 @@ pub(crate) fn push_bytes(buffer: &mut [u8], at: usize, source: &[u8]) -> usize
     requires { at + length source.now ≤ length buffer.old }
     ensures { Wrote at buffer.old source.now result buffer.new }
 {
-    bytes::copy(source, &mut buffer[at..]);
+    slices::copy(source, &mut buffer[at..]);
     at + source.len()
 }
 

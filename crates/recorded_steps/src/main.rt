@@ -2,13 +2,15 @@
 // before it, and the registers and the cells written after it.
 #![tactic(auto)]
 
-ghost use Rattle.std.specs.Prelude.{◌≡◌, true, ◌≤◌, length};
+ghost use Rattle.std.specs.Prelude.{◌≡◌, true, ◌≤◌, length, IfOk};
 ghost use Rattle.recorded_steps.specs.Record.{longest_image, cells_before, cells_after, Goes, AsRecorded};
 
+use console::read_full;
 use image::limits_of;
-use libc::STDOUT_FILENO;
 use machine::{Registers, StepAnswer};
 use numbers::words::byte_at;
+use std::io::Read;
+use std::{fs, io};
 use vectors::{put_cells, registers_of};
 
 #[derive(Clone, Copy)]
@@ -119,29 +121,29 @@ fn as_recorded(recorded: &[u8], memory: &mut [u8], expected: &mut [u8]) -> bool
 }
 
 // What comes of the next record: 0 at the end of the file, 1 where its step goes as recorded, from zeros, and 2 where it does not.
-fn compare_next(fd: i32) -> u8
-    ensures { result ≤ 2 }
+fn compare_next(file: &mut impl Read) -> io::Result<u8>
+    ensures { IfOk result (λ outcome. outcome ≤ 2) }
 {
     let mut bytes = [0u8; 46];
-    if io::read_full(fd, &mut bytes) < 46 {
-        return 0;
+    if read_full(file, &mut bytes)? < 46 {
+        return Ok(0);
     }
     let mut memory = [0u8; 32768];
     let mut expected = [0u8; 32768];
     if as_recorded(&bytes, &mut memory, &mut expected) {
-        1
+        Ok(1)
     } else {
-        2
+        Ok(2)
     }
 }
 
-fn compare(fd: i32) -> Totals
-    ensures { result.differences ≤ result.steps }
+fn compare(file: &mut impl Read) -> io::Result<Totals>
+    ensures { IfOk result (λ totals. totals.differences ≤ totals.steps) }
 {
     let mut steps = 0;
     let mut differences = 0;
     while steps < 10000 {
-        let outcome = compare_next(fd);
+        let outcome = compare_next(file)?;
         if outcome == 0 {
             break;
         }
@@ -150,20 +152,13 @@ fn compare(fd: i32) -> Totals
             differences += 1;
         }
     }
-    Totals { steps, differences }
+    Ok(Totals { steps, differences })
 }
 
-fn main() {
-    let path = b"steps.bin";
-    let fd = os::open_read(path);
-    if fd < 0 {
-        os::fail(path);
-        return;
-    }
-    let totals = compare(fd);
-    libc::close(fd);
-    io::print_decimal(STDOUT_FILENO, totals.steps);
-    io::write_all(STDOUT_FILENO, b" steps, ");
-    io::print_decimal(STDOUT_FILENO, totals.differences);
-    io::write_all(STDOUT_FILENO, b" differences\n");
+fn main(rt: HostRuntime) -> io::Result<()> {
+    let mut file = fs::open(&rt, "steps.bin")?;
+    let totals = compare(&mut file)?;
+    let steps = totals.steps;
+    let differences = totals.differences;
+    println!(rt; "{steps} steps, {differences} differences")
 }

@@ -90,7 +90,7 @@ pub fn registers_text(r: Registers) -> [u8; 42]
     ensures { result ≡ registers_text r }
 {
     let mut text = [0u8; 42];
-    bytes::copy(b"A .. X .... Y .... CC .. SP .... PC ......", &mut text);
+    slices::copy(b"A .. X .... Y .... CC .. SP .... PC ......", &mut text);
     put_byte_digits(&mut text, 2, r.a);
     put_word_digits(&mut text, 7, r.x);
     put_word_digits(&mut text, 14, r.y);
