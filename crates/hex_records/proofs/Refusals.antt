@@ -20,6 +20,7 @@ pub open_pass : (place : Place) → Open place → open_check place ≡ 0
 unfolding open_check
 open_pass First Lines.first = refl
 open_pass (Next n) Lines.next = refl
+open_pass Ended x' = elim x' [ ]
 
 shape_numbered : (type n address : ℕ) → Numbered 30 30 (shape_check type n address)
 unfolding shape_check
@@ -65,9 +66,11 @@ pub follow_pass : (place : Place) (address : ℕ) → Follows place address → 
 unfolding follow_check
 follow_pass First address Lines.base = refl
 follow_pass (Next n) address Lines.on = differ_pass address address 32 refl
+follow_pass Ended address x' = elim x' [ ]
 
 pub follow_fails : (place : Place) (address : ℕ) → Open place → (Follows place address → ⊥) → follow_check place address ≡ 32
 unfolding follow_check differ
 follow_fails First address Lines.first bad = absurd (bad Lines.base)
 follow_fails (Next n) address Lines.next bad =
     rw (ne_eqb address n (λ e. bad (subst (λ (m : ℕ). Follows (Next m) address) e Lines.on)))
+follow_fails Ended address x'' bad = elim x'' [ ]

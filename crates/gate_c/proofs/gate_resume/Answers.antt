@@ -1,0 +1,8 @@
+-- `gate_c::gate_resume` meets its contract.
+use Rattle.gate_c.proofs.Answers.{resumed_into}
+use borrow.Author.Rules.{rules}
+use Rattle.gate_c.proofs.gate_resume.Goals as goal
+
+pub returns : goal.returns
+returns c =
+    resumed_into c.limits_in.ensures c.resume-resumed.ensures.resumes c.resume_number.ensures c.register_cells.ensures c.resume_offset.ensures

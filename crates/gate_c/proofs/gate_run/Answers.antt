@@ -1,0 +1,10 @@
+-- `gate_c::gate_run` meets its contract.
+use mathlib.Core.Path.{refl}
+use borrow.Author.Rules.{rules}
+use Rattle.gate_c.proofs.Answers.{ran_by}
+use Rattle.gate_c.proofs.gate_run.Goals as goal
+
+pub returns : goal.returns
+returns c =
+    ran_by _ _ _ _ _ _ _ _ _ _ _ _ _ c.limits_in.ensures c.registers_in.ensures c.run-timed.ensures.memory_value c.run-timed.ensures.cycles_value
+    c.run_number.ensures c.register_cells.ensures refl

@@ -1,0 +1,9 @@
+-- `gate_c::gate_step` meets its contract.
+use borrow.Author.Rules.{rules}
+use Rattle.gate_c.proofs.Answers.{stepped_by}
+use Rattle.gate_c.proofs.gate_step.Goals as goal
+
+pub returns : goal.returns
+returns c =
+    stepped_by _ _ _ _ _ _ _ _ _ _ _ _ _ c.limits_in.ensures c.registers_in.ensures c.step-s.ensures.memory_value c.step-s.ensures.cycles_value c.step-s.ensures.record_value
+    c.step_number.ensures c.register_cells.ensures c.record_cells.ensures

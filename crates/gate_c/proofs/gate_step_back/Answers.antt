@@ -1,0 +1,8 @@
+-- `gate_c::gate_step_back` meets its contract.
+use borrow.Author.Rules.{rules}
+use Rattle.gate_c.proofs.Answers.{back_by}
+use Rattle.gate_c.proofs.gate_step_back.Goals as goal
+
+pub returns : goal.returns
+returns c =
+    back_by _ _ _ _ _ _ c.record_in.ensures c.step_back-back.ensures c.register_cells.ensures

@@ -1,0 +1,8 @@
+-- `gate_c::gate_turn` meets its contract.
+use borrow.Author.Rules.{rules}
+use Rattle.gate_c.proofs.Answers.{turned_by}
+use Rattle.gate_c.proofs.gate_turn.Goals as goal
+
+pub returns : goal.returns
+returns c =
+    turned_by _ _ _ _ _ _ _ c.limits_in.ensures c.turn-answer.ensures.marks_value c.values_of-values.ensures

@@ -1,0 +1,8 @@
+-- `gate_c::record_cells` meets its contract: a value fits its type, so it is read back.
+use borrow.Author.Rules.{rules}
+use Rattle.gate_c.proofs.Answers.{read_record}
+use Rattle.gate_c.proofs.record_cells.Goals as goal
+
+pub returns : goal.returns
+returns c =
+    read_record c.args.r _ _ _ c.register_cells-registers.ensures c.byte_cell-lower.ensures c.byte_cell-upper.ensures
