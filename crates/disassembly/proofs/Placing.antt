@@ -31,10 +31,10 @@ text_placed address i buffer h = placed_fits (text address i) buffer (le_trans (
 
 -- a copy of the part of n bytes that is the text
 pub placed_copy : (s part buffer : List ℕ) (n : ℕ) → n ≡ length s → part ≡ s → n ≤ length buffer →
-    placed s buffer ≡ (Bytes n, take (length part) part ++ drop (length part) buffer)
+    placed s buffer ≡ (Bytes n, part ++ drop (length part) buffer)
 placed_copy s part buffer n size start h =
     let room : length s ≤ length buffer = rw size at h in
-    rw (start, size, take-length s) (placed_fits s buffer room)
+    rw (start, size) (placed_fits s buffer room)
 
 -- what was written lies within the buffer
 pub written_within : (s buffer after : List ℕ) (written : Written) (n : ℕ) → (written, after) ≡ placed s buffer → written ≡ Bytes n → n ≤ length after
