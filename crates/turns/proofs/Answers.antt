@@ -15,7 +15,6 @@ use Rattle.image.specs.declared.Validated.TheVariants.{Valid}
 use Rattle.image.proofs.Validity.{rules_valid}
 use Rattle.rules.specs.Outcome.{VerdictNumbered}
 use Rattle.rules.specs.declared.Verdict.{Verdict}
-use Rattle.rules.specs.declared.Verdict.TheVariants as Verdict
 use Rattle.acceptance.specs.Check.{checked}
 use Rattle.acceptance.proofs.Accepting.{accepted_exactly}
 use Rattle.turns.specs.Turn.{some_jumps_back, turn_of, over_or_within, answer_of, turned}

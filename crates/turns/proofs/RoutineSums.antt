@@ -2,7 +2,6 @@
 use Prim.Native.Nat.{ℕ, ◌+◌, ◌<◌, ◌≤◌}
 use mathlib.Core.Path.{◌≡◌, refl, sym, ap, ◌∙◌}
 use mathlib.Core.Bool.{Bool, true, false, false≢true}
-use mathlib.Core.Logic.{⊎_elim}
 use mathlib.Core.List.{List, [], map}
 use native.Mathlib.Nat.{zero-add, add-zero}
 use native.Mathlib.Omega.{arith}
@@ -26,9 +25,9 @@ use Rattle.turns.proofs.Holding.{held_low, held_sum, held_more}
 module _ {image turns : List ℕ} {r at : ℕ} where
   pub count_none : {end : ℕ} (d : Decoded) → d ≡ instruction_at image r at → NoInstruction d → end ≡ end_of image r →
       CountedAt image turns r at (record { turn = 0; back = false; next = end })
-  count_none (Found i n) e k end_is = absurd (⊎_elim (λ z. omega arith) (λ z. omega arith) k)
-  count_none Outside e k end_is = nothing (rw (← e)) (rw (← e)) refl refl end_is
-  count_none Truncated e k end_is = nothing (rw (← e)) (rw (← e)) refl refl end_is
+  count_none (Found i n) e none end_is = absurd (none i n refl)
+  count_none Outside e none end_is = nothing (rw (← e)) (rw (← e)) refl refl end_is
+  count_none Truncated e none end_is = nothing (rw (← e)) (rw (← e)) refl refl end_is
 
   pub count_one : {i : Instruction} {n base t : ℕ} {e : Effect} {back : Bool} → instruction_at image r at ≡ Found i n → e ≡ effect i →
       base ≡ base_of image → t ≡ held (callee_turn image turns r (call_target (base + at + n) e.flow)) →

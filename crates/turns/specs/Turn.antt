@@ -9,7 +9,6 @@ use Rattle.image.specs.declared.Limits.{Limits}
 use Rattle.code.specs.Instructions.{Located, instructions_of}
 use Rattle.rules.specs.Paths.{callee}
 use Rattle.rules.specs.declared.Verdict.{Verdict}
-use Rattle.rules.specs.declared.Verdict.TheVariants as Verdict
 use Rattle.acceptance.specs.Check.{checked}
 use Rattle.turns.specs.declared.TurnAnswer.{TurnAnswer}
 use Rattle.turns.specs.declared.TurnAnswer.TheVariants.{Refused, NoTurn, Over, Within}

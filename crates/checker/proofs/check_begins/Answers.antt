@@ -1,6 +1,5 @@
 -- `checker::check_begins` meets its contract.
 use mathlib.Core.Path.{◌∙◌}
-use borrow.Author.Rules.{rules}
 use Rattle.image.specs.Image.{layout_of}
 use Rattle.checker.proofs.Verdicts.{accepted_valid}
 use Rattle.checker.proofs.check_begins.Goals as goal

@@ -3,7 +3,6 @@ use mathlib.Core.Path.{ap, ◌∙◌}
 use lib.ListN.{length, replicate, length-replicate}
 use Rattle.image.proofs.Layouts.{valid_bounds, size_is}
 use Rattle.checker.proofs.Verdicts.{code_outcome}
-use borrow.Author.Rules.{rules}
 use Rattle.checker.proofs.check_code.Goals as goal
 
 pub sweep_routines-s-requires : goal.sweep_routines-s-requires
@@ -20,5 +19,5 @@ verdict_of-v-requires c =
 
 pub returns : goal.returns
 returns c =
-    let size = c.sweep_routines-s.auto.1.1.1.1.0 ∙ ap length c.clear.ensures ∙ length-replicate _ 0 ∙ c.requires.2 ∙ size_is _ _ _ c.requires.0 in
+    let size = c.sweep_routines-s.auto.marks ∙ ap length c.clear.ensures ∙ length-replicate _ 0 ∙ c.requires.2 ∙ size_is _ _ _ c.requires.0 in
     code_outcome c.requires.0 _ size c.sweep_routines-s.ensures.swept c.verdict_of-v.ensures c.clear_refused.ensures

@@ -3,7 +3,6 @@ use mathlib.Core.Path.{sym, ◌∙◌}
 use Rattle.rules.specs.Outcome.{invalid}
 use Rattle.rules.proofs.EveryOutcome.{verdict_numbered}
 use Rattle.acceptance.proofs.Accepting.{outcome_checked}
-use borrow.Author.Rules.{rules}
 use Rattle.checker.proofs.check_measured.Goals as goal
 
 pub check_valid-requires : goal.check_valid-requires

@@ -5,7 +5,6 @@ use lib.Seq.{length-take-le}
 use Rattle.image.proofs.Layouts.{size_is}
 use Rattle.rules.specs.Outcome.{few}
 use Rattle.checker.proofs.Verdicts.{code_whole}
-use borrow.Author.Rules.{rules}
 use Rattle.checker.proofs.check_valid.Goals as goal
 
 pub returns-then-marks-size : goal.returns-then-marks-size

@@ -1,5 +1,4 @@
 -- `checker::clear_refused` meets its contract.
-use borrow.Author.Rules.{rules}
 use Rattle.checker.proofs.clear_refused.Goals as goal
 
 pub returns-in-Refused : goal.returns-in-Refused

@@ -2,7 +2,6 @@
 use Prim.Native.Nat.{◌-◌}
 use native.Mathlib.Omega.{arith}
 use Rattle.checker.specs.Internal.{refusing, narrow, accepting}
-use borrow.Author.Rules.{rules}
 use Rattle.checker.proofs.verdict_of.Goals as goal
 
 pub overflow_add-need : goal.overflow_add-need

@@ -1,5 +1,4 @@
 -- `turns::answer` meets its contract.
-use borrow.Author.Rules.{rules}
 use Rattle.image.specs.Image.{layout_of}
 use Rattle.turns.proofs.Answers.{answer_none, answer_some}
 use Rattle.turns.proofs.answer.Goals as goal

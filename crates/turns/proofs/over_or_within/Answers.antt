@@ -1,5 +1,4 @@
 -- `turns::over_or_within` meets its contract.
-use borrow.Author.Rules.{rules}
 use borrow.Author.Tests.{lt-ltb, le-ltb}
 use Rattle.turns.proofs.over_or_within.Goals as goal
 

@@ -1,5 +1,4 @@
 -- `turns::turn` meets its contract: each answer is one way through a turn.
-use borrow.Author.Rules.{rules}
 use Rattle.turns.proofs.Answers.{turn_refused, turn_accepted, accepted_layout}
 use Rattle.turns.proofs.turn.Goals as goal
 
@@ -10,8 +9,10 @@ answer-requires c =
 
 pub returns-in-Refused : goal.returns-in-Refused
 returns-in-Refused c =
-    turn_refused _ _ _ c.check_begins-checked.ensures.marks_value c.in-Refused.is c.check_begins-checked.ensures.verdict_numbered
+    let answer = turn_refused _ _ _ c.check_begins-checked.ensures.marks_value c.in-Refused.is c.check_begins-checked.ensures.verdict_numbered in
+    record { marks_value = answer.0; turn_numbered = answer.1 }
 
 pub returns-in-Accepted : goal.returns-in-Accepted
 returns-in-Accepted c =
-    turn_accepted _ _ _ c.check_begins-checked.ensures.marks_value c.in-Accepted.is c.answer.ensures
+    let answer = turn_accepted _ _ _ c.check_begins-checked.ensures.marks_value c.in-Accepted.is c.answer.ensures in
+    record { marks_value = answer.0; turn_numbered = answer.1 }

@@ -1,5 +1,4 @@
 -- `turns::values_of` meets its contract.
-use borrow.Author.Rules.{rules}
 use Rattle.turns.proofs.values_of.Goals as goal
 
 pub returns-in-Refused : goal.returns-in-Refused

@@ -1,8 +1,7 @@
 -- `checker::marks::clear` meets its contract. The loop's invariant: the marks before i are 0, and the others as they were.
-use Prim.Native.Nat.{◌-◌, ◌≤◌}
 use mathlib.Core.Path.{◌≡◌, refl, ap, ◌∙◌}
-use mathlib.Core.List.{◌++◌, append-nil}
-use lib.ListN.{length, set, drop, replicate, length-set}
+use mathlib.Core.List.{append-nil}
+use lib.ListN.{length, set, length-set}
 use lib.Seq.{drop-length}
 use borrow.Author.Fill.{fill_more}
 use native.Mathlib.Omega.{arith}

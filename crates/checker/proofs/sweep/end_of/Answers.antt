@@ -1,7 +1,6 @@
 -- `checker::sweep::end_of` meets its contract.
 use Prim.Native.Nat.{◌+◌}
 use native.Mathlib.Omega.{arith}
-use borrow.Author.Rules.{rules}
 use borrow.Author.Tests.{lt-ltb}
 use Rattle.image.proofs.Layouts.{valid_bounds}
 use Rattle.checker.proofs.Routines.{next_begins, last_ends}

@@ -1,7 +1,6 @@
 -- `checker::sweep::routine_at` meets its contract.
 use mathlib.Core.Path.{refl}
 use Rattle.checker.proofs.Routines.{routine_of}
-use borrow.Author.Rules.{rules}
 use Rattle.checker.proofs.sweep.routine_at.Goals as goal
 
 pub returns : goal.returns

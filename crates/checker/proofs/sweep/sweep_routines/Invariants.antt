@@ -1,12 +1,8 @@
 -- `checker::sweep::sweep_routines` meets its contract. The loop's invariant: the routines so far pass, and from the next one on nothing is a start
 -- yet.
-use Prim.Native.Nat.{ℕ, ◌-◌}
-use mathlib.Core.Path.{sym, ap, ◌∙◌}
-use native.Mathlib.Omega.{arith}
-use lib.ListN.{length, length-replicate}
-use Rattle.decode_pass.specs.Pass.{RoutineOf}
+use Prim.Native.Nat.{◌-◌}
 use Rattle.checker.specs.Internal.{Clean}
-use Rattle.checker.proofs.Routines.{Between, between_none, zeros_clean, routine_ready, need_fits, swept_stopped, between_more, swept_ended}
+use Rattle.checker.proofs.Routines.{Between}
 use Rattle.checker.proofs.sweep.sweep_routines.Given as goal
 
 abbrev pub invariant-loop-s : goal.invariant-loop-s

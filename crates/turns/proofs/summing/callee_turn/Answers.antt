@@ -1,6 +1,5 @@
 -- `turns::summing::callee_turn` meets its contract.
 use native.Mathlib.Omega.{arith}
-use borrow.Author.Rules.{rules}
 use Rattle.stm8.specs.Effects.{call_target}
 use Rattle.turns.proofs.Holding.{held_low}
 use Rattle.turns.proofs.summing.callee_turn.Goals as goal

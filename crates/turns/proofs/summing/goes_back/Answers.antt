@@ -1,5 +1,4 @@
 -- `turns::summing::goes_back` meets its contract.
-use borrow.Author.Rules.{rules}
 use Rattle.stm8.specs.Effects.{jump_target}
 use Rattle.turns.proofs.summing.goes_back.Goals as goal
 

@@ -1,14 +1,10 @@
 -- `turns::summing::sum_routine` meets its contract. The loop's invariant: what is summed so far and what is left make the routine's turn, and no jump so
 -- far goes back.
 use Prim.Native.Nat.{ℕ, ◌-◌, ◌≤◌}
-use mathlib.Core.Path.{sym}
-use mathlib.Core.Bool.{false≢true}
 use mathlib.Core.List.{List}
-use native.Mathlib.Omega.{arith}
 use Rattle.decode_pass.specs.Pass.{Given}
 use Rattle.turns.specs.Internal.{HeldIn}
-use Rattle.turns.proofs.Holding.{held_most}
-use Rattle.turns.proofs.RoutineSums.{SummedTo, summed_none, summed_back, summed_on, summed_all}
+use Rattle.turns.proofs.RoutineSums.{SummedTo}
 use Rattle.turns.proofs.summing.sum_routine.Given as goal
 
 abbrev pub invariant-loop-at : goal.invariant-loop-at
