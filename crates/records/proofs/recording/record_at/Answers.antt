@@ -1,5 +1,4 @@
 -- `records::recording::record_at` meets its contract.
-use borrow.Author.Rules.{rules}
 use Rattle.records.proofs.StoredBytes.{by_none, by_effect}
 use Rattle.records.proofs.recording.record_at.Goals as goal
 
