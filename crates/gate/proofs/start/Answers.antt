@@ -26,5 +26,5 @@ returns-in-Refused c = record {
 pub returns-in-Accepted : goal.returns-in-Accepted
 returns-in-Accepted c = record {
   cc_value = rw (c.begin-registers.ensures.value, c.begin-registers.ensures.memory_after) (start_accepted _ _ _ _ _ _ _ _ c.if-memory-ne32768.false c.check_begins-checked.result.verdict _ c.check_begins-checked.ensures.marks_value _ _ c.in-Accepted.is);
-  verdict_numbered = rw (c.begin-registers.ensures.value, c.begin-registers.ensures.memory_after) (numbered_check c.check_begins-checked.ensures.verdict_numbered);
+  verdict_numbered = numbered_check c.check_begins-checked.ensures.verdict_numbered;
 }
