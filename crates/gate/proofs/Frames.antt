@@ -24,8 +24,8 @@ module _ (image : List ℕ) (limits : Limits) (depth : ℕ → ℕ) where
   abbrev pub Frames : List ℕ → ℕ → ℕ → List ℕ → Type 0
   Frames memory r f book = (c : Callers image limits depth r f book) × Held memory c
 
-  pub placed : {memory book : List ℕ} {r f f' : ℕ} → f ≡ f' → Frames memory r f book → Frames memory r f' book
-  placed e h = rw (← e) h
+  pub placed : (memory : List ℕ) {book : List ℕ} {r f f' : ℕ} → f ≡ f' → Frames memory r f book → Frames memory r f' book
+  placed memory e h = rw (← e) h
 
   -- the return addresses end at stack high at most
   pub callers_top : {r f : ℕ} {book : List ℕ} → Callers image limits depth r f book → f + 2 ≤ limits.stack.high

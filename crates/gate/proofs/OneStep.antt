@@ -90,7 +90,7 @@ module _ (image : List ℕ) (limits : Limits) (depth : ℕ → ℕ) (total : ℕ
   stays regs' memory' to start here same agree kept =
       record {
         untrapped = tt;
-        good = stands_good image limits depth _ r to listed start here unreturned (placed image limits depth same (kept_frames memory' agree));
+        good = stands_good image limits depth _ r to listed start here unreturned (placed image limits depth _ same (kept_frames memory' agree));
         met = tt;
         kept = kept;
       }
@@ -105,14 +105,14 @@ module _ (image : List ℕ) (limits : Limits) (depth : ℕ → ℕ) (total : ℕ
       (result Made regs' memory')
   enters regs' memory' callee n i inside start found calls entry here same stored agree kept =
       let above : Frames image limits depth memory' r (regs'.sp + 2 + depth o) book.addresses =
-      placed image limits depth (omega arith) (kept_frames memory' agree) in
+      placed image limits depth _ (omega arith) (kept_frames memory' agree) in
       let own : Frames image limits depth memory' callee regs'.sp ((base_of image + (o + n)) ∷ book.addresses) =
       (called listed start found calls above.0, (stored, above.1)) in
       record {
         untrapped = tt;
         good =
             stands_good image limits depth _ callee (start_of image callee) inside begins here unreturned
-            (placed image limits depth (omega arith) own);
+            (placed image limits depth _ (omega arith) own);
         met = tt;
         kept = kept;
       }
@@ -141,7 +141,7 @@ module _ (image : List ℕ) (limits : Limits) (depth need : ℕ → ℕ) (code :
         untrapped = tt;
         good =
             stands_good image limits depth _ c (o + n) inside back.start address_read unreturned
-            (placed image limits depth (omega arith) (above, held.1));
+            (placed image limits depth _ (omega arith) (above, held.1));
         met = address_read;
         kept = unchanged_none limits (reported_need image need) memory;
       }

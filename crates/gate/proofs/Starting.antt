@@ -81,7 +81,7 @@ module _ (image : List ℕ) (limits : Limits) (depth need : ℕ → ℕ) (code :
       record {
         good =
             stands_good image limits depth _ (main_of image) (start_of image (main_of image)) main_listed begins refl refl
-            (placed image limits depth {f = limits.stack.high - 2} (omega arith) (main refl top, rw at zeros_stored));
+            (placed image limits depth _ {f = limits.stack.high - 2} (omega arith) (main refl top, rw at zeros_stored));
         kept =
             record {
               size = length-sets memory (limits.stack.high - 1) (0 ∷ 0 ∷ []);

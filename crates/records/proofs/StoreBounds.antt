@@ -1,12 +1,11 @@
 -- The bytes that an effect stores: two at most, the lower address first, and below 8000 where no trap is due.
-use Prim.Native.Nat.{ℕ, ◌+◌, ◌-◌, ◌≤◌, ◌<◌}
+use Prim.Native.Nat.{ℕ, ◌+◌, ◌≤◌, ◌<◌}
 use mathlib.Core.Path.{◌≡◌}
-use mathlib.Core.Logic.{◌⊎◌, ⊎_elim}
+use mathlib.Core.Logic.{⊎_elim}
 use native.Mathlib.Omega.{arith}
 use lib.ListN.{length}
-use Rattle.numbers.specs.Checks.{first}
 use Rattle.numbers.proofs.Checking.{first_zero, under_zero, unless_zero}
-use Rattle.stm8.specs.Effects.{bytes_wide, effect}
+use Rattle.stm8.specs.Effects.{bytes_wide}
 use Rattle.stm8.specs.declared.Width.{Width}
 use Rattle.stm8.specs.declared.Width.TheVariants.{Byte, Word}
 use Rattle.stm8.specs.declared.Place.{Place}

@@ -1,8 +1,7 @@
 -- What stands at PC, and where it stores: what the code finds is what the definitions say.
 use Prim.Native.Nat.{ℕ, ◌+◌, ◌-◌, ◌<◌}
 use mathlib.Core.Path.{◌≡◌, refl, sym, ap, ◌∙◌}
-use mathlib.Core.Logic.{⊎_elim}
-use mathlib.Core.List.{List, [], ◌∷◌}
+use mathlib.Core.List.{List, []}
 use native.Mathlib.Omega.{arith}
 use lib.ListN.{length}
 use Rattle.stm8.specs.Effects.{effect}
@@ -66,15 +65,13 @@ module _ (regs : Registers) (memory : List ℕ) (r : Record) (d d' : Decoded) (s
       r ≡ record_of regs memory (stored_by regs.sp d')
   by_effect e i n is effects found = rw (← same, found, ← effects) is
 
-  pub by_none : types.Run.OneOf (1 ∷ 2 ∷ []) (denote.Enum.Declared.tag_of Rattle.stm8.specs.contracts.Decoded.the_type d) → r ≡ record_of regs memory [] →
-      r ≡ record_of regs memory (stored_by regs.sp d')
+  pub by_none : ((i : Instruction) (n : ℕ) → d ≡ Found i n → ⊥) → r ≡ record_of regs memory [] → r ≡ record_of regs memory (stored_by regs.sp d')
   by_none other is = is ∙ ap (record_of regs memory) (sym (stored d other) ∙ ap (stored_by regs.sp) same)
     where
-      stored : (d : Decoded) → types.Run.OneOf (1 ∷ 2 ∷ []) (denote.Enum.Declared.tag_of Rattle.stm8.specs.contracts.Decoded.the_type d) →
-          stored_by regs.sp d ≡ []
-      stored (Found i n) h = absurd (⊎_elim (λ e. omega arith) (λ e. omega arith) h)
-      stored Outside h = refl
-      stored Truncated h = refl
+      stored : (d : Decoded) → ((i : Instruction) (n : ℕ) → d ≡ Found i n → ⊥) → stored_by regs.sp d ≡ []
+      stored (Found i n) other = absurd (other i n refl)
+      stored Outside other = refl
+      stored Truncated other = refl
 
 -- a step is made of an image that follows the rules alone
 made_image : (image : List ℕ) (limits : Limits) (regs : Registers) (memory : List ℕ) → (stepped image limits regs memory).0.answer ≡ Made → ImageRules image

@@ -17,14 +17,14 @@ begin-registers-requires c =
     }
 
 pub returns-in-Refused : goal.returns-in-Refused
-returns-in-Refused c =
-    rw c.refused-in-Refused.ensures (
-      start_refused _ _ _ _ _ _ _ _ c.if-memory-ne32768.false c.check_begins-checked.result.verdict _ c.check_begins-checked.ensures.marks_value _ _ c.in-Refused.is,
-      numbered_check c.check_begins-checked.ensures.verdict_numbered,
-    )
+returns-in-Refused c = record {
+  cc_value = rw c.refused-in-Refused.ensures
+      (start_refused _ _ _ _ _ _ _ _ c.if-memory-ne32768.false c.check_begins-checked.result.verdict _ c.check_begins-checked.ensures.marks_value _ _ c.in-Refused.is);
+  verdict_numbered = rw c.refused-in-Refused.ensures (numbered_check c.check_begins-checked.ensures.verdict_numbered);
+}
 
 pub returns-in-Accepted : goal.returns-in-Accepted
 returns-in-Accepted c = record {
   cc_value = rw (c.begin-registers.ensures.value, c.begin-registers.ensures.memory_after) (start_accepted _ _ _ _ _ _ _ _ c.if-memory-ne32768.false c.check_begins-checked.result.verdict _ c.check_begins-checked.ensures.marks_value _ _ c.in-Accepted.is);
-  verdict_numbered = rw (c.begin-registers.ensures.value, c.begin-registers.ensures.memory_after) (numbered_check c.check_begins-checked.ensures.verdict_numbered);
+  verdict_numbered = numbered_check c.check_begins-checked.ensures.verdict_numbered;
 }

@@ -1,5 +1,4 @@
 -- `records::step` meets its contract: what was read before the step is what its record asks for.
-use borrow.Author.Rules.{rules}
 use Rattle.records.proofs.StoredBytes.{recorded_by}
 use Rattle.records.proofs.step.Goals as goal
 

@@ -1,6 +1,5 @@
 -- `records::step_back` meets its contract.
 use mathlib.Core.Path.{refl}
-use borrow.Author.Rules.{rules}
 use Rattle.records.proofs.GivingBack.{back_by}
 use Rattle.records.proofs.step_back.Goals as goal
 

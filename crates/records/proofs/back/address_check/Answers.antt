@@ -1,5 +1,4 @@
 -- `records::back::address_check` meets its contract.
-use borrow.Author.Rules.{rules}
 use Rattle.records.proofs.back.address_check.Goals as goal
 
 pub returns : goal.returns

@@ -1,6 +1,5 @@
 -- `records::back::put_listed` meets its contract.
 use borrow.Author.Tests.{le-ltb, lt-ltb}
-use borrow.Author.Rules.{rules}
 use Rattle.records.proofs.back.put_listed.Goals as goal
 
 pub returns-then-k-given : goal.returns-then-k-given

@@ -1,6 +1,5 @@
 -- `records::back::put_unless` meets its contract.
 use borrow.Author.Tests.{eq-eqb, ne_eqb}
-use borrow.Author.Rules.{rules}
 use Rattle.records.proofs.GivingBack.{put_by}
 use Rattle.records.proofs.back.put_unless.Goals as goal
 

@@ -1,5 +1,4 @@
 -- `records::back::refusal` meets its contract.
-use borrow.Author.Rules.{rules}
 use Rattle.records.proofs.GivingBack.{refused_by}
 use Rattle.records.proofs.back.refusal.Goals as goal
 

@@ -1,5 +1,4 @@
 -- `records::recording::record_by` meets its contract: the record of each kind of place.
-use borrow.Author.Rules.{rules}
 use Rattle.execution.specs.Performing.{sp_after}
 use Rattle.records.proofs.StoredBytes.{at_nowhere, at_direct, on_stack, as_pushed}
 use Rattle.records.proofs.recording.record_by.Goals as goal
