@@ -5,4 +5,9 @@ use Rattle.gate_c.proofs.gate_check.Goals as goal
 
 pub returns : goal.returns
 returns c =
-    checked_by _ _ _ _ _ _ _ _ c.limits_in.ensures c.check-verdict.ensures.marks_value c.verdict_number.ensures c.offset_need_count.ensures
+    let p =
+    checked_by _ _ _ _ _ _ _ _ c.limits_in.ensures c.check-verdict.ensures.marks_value c.verdict_number.ensures c.offset_need_count.ensures in record {
+      value = p.0;
+      report_after = p.1.0;
+      marks_after = p.1.1;
+    }

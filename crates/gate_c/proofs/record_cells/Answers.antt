@@ -5,4 +5,8 @@ use Rattle.gate_c.proofs.record_cells.Goals as goal
 
 pub returns : goal.returns
 returns c =
-    read_record c.args.r _ _ _ c.register_cells-registers.ensures c.byte_cell-lower.ensures c.byte_cell-upper.ensures
+    let p =
+    read_record c.args.r _ _ _ (c.register_cells-registers.ensures.value, c.register_cells-registers.ensures.result_value) c.byte_cell-lower.ensures c.byte_cell-upper.ensures in record {
+      value = p.0;
+      result_value = p.1;
+    }
