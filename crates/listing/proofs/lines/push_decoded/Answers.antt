@@ -6,6 +6,7 @@ use Rattle.code.specs.Code.{decoded_at, instruction_in}
 use Rattle.code.proofs.Parts.{code_cut}
 use Rattle.listing.proofs.Appending.{wrote_none}
 use Rattle.listing.proofs.lines.push_decoded.Goals as goal
+use Rattle.listing.proofs.lines.push_decoded.Goals.{After-decode_at-d}
 
 -- what is decoded stands at the offset
 here : (d : After-decode_at-d) →
@@ -16,17 +17,17 @@ here d =
 
 pub returns-in-Found : goal.returns-in-Found
 returns-in-Found c =
-    let found = here c ∙ c.in-Found.is in
+    let found = here (goal.at.returns-in-Found c).After-decode_at-d ∙ c.in-Found.is in
     rw found c.push_text.ensures
 
 pub returns-in-Outside : goal.returns-in-Outside
 returns-in-Outside c =
-    let found = here c ∙ c.in-Outside.is in
+    let found = here (goal.at.returns-in-Outside c).After-decode_at-d ∙ c.in-Outside.is in
     rw found (wrote_none _ _)
 
 pub returns-in-Truncated : goal.returns-in-Truncated
 returns-in-Truncated c =
-    let found = here c ∙ c.in-Truncated.is in
+    let found = here (goal.at.returns-in-Truncated c).After-decode_at-d ∙ c.in-Truncated.is in
     rw found (wrote_none _ _)
 
 pub slice_bounds-decode_at-count : goal.slice_bounds-decode_at-count
