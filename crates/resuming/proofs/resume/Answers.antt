@@ -26,7 +26,7 @@ resume_accepted-requires c = record {
         given = c.args.marks.now;
         need = _;
         count = _;
-        c.in-Accepted.is = ap (λ (r : Verdict × List ℕ). r.0) c.check_begins-checked.ensures.marks_value ∙ c.in-Accepted.is;
+        verdict = ap (λ (r : Verdict × List ℕ). r.0) c.check_begins-checked.ensures.marks_value ∙ c.in-Accepted.is;
         left = ap (λ (r : Verdict × List ℕ). r.1) c.check_begins-checked.ensures.marks_value;
         begin = c.check_begins-checked.ensures.by_index _ _ c.in-Accepted.is;
       };
