@@ -1,7 +1,7 @@
 -- The guarantee: from a good point, whatever list of steps and runs follows, every state of its history is a good point and the claim holds there. An
 -- accepted start leaves one.
 use Prim.Native.Nat.{ℕ, ◌<◌}
-use mathlib.Core.Path.{◌≡◌, refl, ◌∙◌}
+use mathlib.Core.Path.{◌≡◌, refl, sym, ◌∙◌, subst}
 use mathlib.Core.List.{List}
 use native.Mathlib.Omega.{arith}
 use lib.ListN.{length}
@@ -89,7 +89,7 @@ module _ (image : List ℕ) (bytes : Bytes image) (limits : Limits) (marks : Lis
       All (Holds image limits need before) (history calls p)
   good_guarantee before size p good kept calls allowed =
       let h = accepted_code in
-      rw h.reported
+      subst (λ (k : ℕ). All (Holds image limits k before) (history calls p)) (sym h.reported)
       (from_good image limits _ h.needs h.code before size p (record { good = good; kept = rw h.reported at kept }) calls allowed)
 
   -- An accepted start leaves a good point.

@@ -2,8 +2,6 @@
 use Prim.Native.Nat.{ℕ, ◌+◌}
 use mathlib.Core.Path.{◌≡◌, refl}
 use mathlib.Core.Bool.{Bool, true, false, cond}
-use mathlib.Core.Logic.{⊎_elim}
-use native.Mathlib.Omega.{arith}
 use borrow.Author.Tests.{eq-eqb, ne_eqb}
 use Rattle.stm8.specs.Effects.{call_target, effect}
 use Rattle.stm8.specs.declared.Flow.TheVariants.{Branch, Jump}
@@ -21,7 +19,7 @@ jump_calls_nobody false next n address = refl
 
 module _ (base o next address : ℕ) (x : Decoded) where
   pub call_none : (d : Decoded) → d ≡ x → NoInstruction d → false ≡ is_call_to base o next address x
-  call_none (Found i n) e k = absurd (⊎_elim (λ z. omega arith) (λ z. omega arith) k)
+  call_none (Found i n) e k = absurd (k i n refl)
   call_none Outside e k = rw (← e)
   call_none Truncated e k = rw (← e)
 

@@ -12,34 +12,35 @@ use Rattle.resuming.proofs.resume.Goals as goal
 
 pub returns-then-memory-ne32768 : goal.returns-then-memory-ne32768
 returns-then-memory-ne32768 c = record {
-      resumes = rw c.refused.ensures (no_memory c.if-memory-ne32768.true);
-      resume_numbered = rw c.refused.ensures (refused_numbered 17 0 (inl (omega arith, omega arith)) (λ _. refl));
-    }
+  resumes = rw c.refused.ensures (no_memory c.if-memory-ne32768.true);
+  resume_numbered = rw c.refused.ensures (refused_numbered 17 0 (inl (omega arith, omega arith)) (λ _. refl));
+}
 
 pub enum_told-1 : goal.enum_told-1
 enum_told-1 c = search rules
 
 pub resume_accepted-requires : goal.resume_accepted-requires
 resume_accepted-requires c = record {
-      accepting = record {
-        bytes = λ k. (c.shared_slice_known-1.given k).fits;
-        given = c.args.marks.now;
-        need = _;
-        count = _;
-        c.in-Accepted.is = ap (λ (r : Verdict × List ℕ). r.0) c.check_begins-checked.ensures.marks_value ∙ c.in-Accepted.is;
-        left = ap (λ (r : Verdict × List ℕ). r.1) c.check_begins-checked.ensures.marks_value;
-        begin = c.check_begins-checked.ensures.by_index _ _ c.in-Accepted.is;
-      };
-      memory_len = c.if-memory-ne32768.false;
-    }
+  accepting = record {
+    bytes = λ k. (c.shared_slice_known-1.given k).fits;
+    given = c.args.marks.now;
+    need = _;
+    count = _;
+    verdict = ap (λ (r : Verdict × List ℕ). r.0) c.check_begins-checked.ensures.marks_value ∙ c.in-Accepted.is;
+    left = ap (λ (r : Verdict × List ℕ). r.1) c.check_begins-checked.ensures.marks_value;
+    begin = c.check_begins-checked.ensures.by_index _ _ c.in-Accepted.is;
+  };
+  memory_len = c.if-memory-ne32768.false;
+}
 
 pub returns-in-Refused : goal.returns-in-Refused
-returns-in-Refused c =
-    rw c.refused-in-Refused.ensures
-    (refused c.if-memory-ne32768.false (rw c.in-Refused.is at c.check_begins-checked.ensures.marks_value), check_numbered (rw c.in-Refused.is at c.check_begins-checked.ensures.verdict_numbered))
+returns-in-Refused c = record {
+  resumes = rw c.refused-in-Refused.ensures (refused c.if-memory-ne32768.false (rw c.in-Refused.is at c.check_begins-checked.ensures.marks_value));
+  resume_numbered = rw c.refused-in-Refused.ensures (check_numbered (rw c.in-Refused.is at c.check_begins-checked.ensures.verdict_numbered));
+}
 
 pub returns-in-Accepted : goal.returns-in-Accepted
 returns-in-Accepted c = record {
-      resumes = accepted c.if-memory-ne32768.false (rw c.in-Accepted.is at c.check_begins-checked.ensures.marks_value) c.resume_accepted.ensures;
-      resume_numbered = accepted_numbered c.resume_accepted.ensures;
-    }
+  resumes = accepted c.if-memory-ne32768.false (rw c.in-Accepted.is at c.check_begins-checked.ensures.marks_value) c.resume_accepted.ensures;
+  resume_numbered = accepted_numbered c.resume_accepted.ensures;
+}

@@ -1,9 +1,12 @@
 -- `resuming::frames::is_call` meets its contract.
-use Prim.Native.Nat.{◌-◌}
+use Prim.Native.Nat.{ℕ, ◌-◌}
 use mathlib.Core.Path.{◌≡◌, sym, ap, ◌∙◌}
 use native.Mathlib.Omega.{arith}
-use Rattle.image.specs.Image.{size_of}
-use lib.ListN.{length}
+use mathlib.Core.List.{List}
+use lib.ListN.{length, take, drop}
+use Rattle.stm8.specs.declared.Decoded.{Decoded}
+use Rattle.image.specs.Image.{code_at, code_of, size_of, version_of}
+use Rattle.image.specs.Rules.{ImageRules}
 use Rattle.code.proofs.Parts.{code_cut}
 use Rattle.code.specs.Code.{decoded_at, instruction_in}
 use Rattle.resuming.proofs.Calling.{call_none, call_elsewhere, call_here}
@@ -11,28 +14,26 @@ use borrow.Author.Rules.{rules}
 use Rattle.resuming.proofs.frames.is_call.Goals as goal
 
 -- the image ends with its code
-size_is : (c : After-code_at-code) →
-    let image = c.args.image.now in
-    length image - c.code_at-code.result ≡ size_of image
-size_is c = omega (arith, c.code_at-code.ensures.value, c.requires.0.end)
+size_is : (image : List ℕ) {code : ℕ} → ImageRules image → code ≡ code_at image → length image - code ≡ size_of image
+size_is image layout is = omega (arith, layout.end)
 
 -- the decoder's answer is what stands at the offset
-answer : (c : After-decode_at-d) →
-    c.decode_at-d.result ≡ instruction_in c.args.image.now c.args.at
-answer c =
-    c.decode_at-d.ensures.by_index c.args.image.now c.version_of.ensures (code_cut c.args.image.now _ c.code_at-code.ensures.value) ∙
-    ap (λ n. decoded_at c.args.image.now n c.args.at) (size_is c)
+answer : (image : List ℕ) (at : ℕ) {code version : ℕ} {d : Decoded} → ImageRules image → code ≡ code_at image → version ≡ version_of image →
+    ((whole : List ℕ) → version ≡ version_of whole → take (length image - code) (drop code image) ≡ code_of whole → d ≡ decoded_at whole (length image - code) at) →
+    d ≡ instruction_in image at
+answer image at layout is version_is told =
+    told image version_is (code_cut image _ is) ∙ ap (λ n. decoded_at image n at) (size_is image layout is)
 
 pub returns-in_default : goal.returns-in_default
-returns-in_default c = call_none _ _ _ _ _ _ (answer c) c.in_default.in_default-own.keys2
+returns-in_default c = call_none _ _ _ _ _ _ (answer c.args.image.now c.args.at c.requires.0 c.code_at-code.ensures.value c.version_of.ensures c.decode_at-d.ensures.by_index) c.in_default.not-Found
 
 pub overflow_add-at : goal.overflow_add-at
-overflow_add-at c = omega (arith, (c.decode_at-d.ensures.n_nonzero _ _ c.in-Found.is).1, size_is c, c.requires.0.code)
+overflow_add-at c = omega (arith, (c.decode_at-d.ensures.n_nonzero _ _ c.in-Found.is).1, size_is c.args.image.now c.requires.0 c.code_at-code.ensures.value, c.requires.0.code)
 
 pub returns-then-at-n : goal.returns-then-at-n
-returns-then-at-n c = call_elsewhere _ _ _ _ _ (sym (answer c) ∙ c.in-Found.is) c.if-at-n.true
+returns-then-at-n c = call_elsewhere _ _ _ _ _ (sym (answer c.args.image.now c.args.at c.requires.0 c.code_at-code.ensures.value c.version_of.ensures c.decode_at-d.ensures.by_index) ∙ c.in-Found.is) c.if-at-n.true
 
 pub returns : goal.returns
 returns c =
-    call_here _ _ _ _ _ (sym (answer c) ∙ c.in-Found.is) c.if-at-n.false c.base_of.ensures
+    call_here _ _ _ _ _ (sym (answer c.args.image.now c.args.at c.requires.0 c.code_at-code.ensures.value c.version_of.ensures c.decode_at-d.ensures.by_index) ∙ c.in-Found.is) c.if-at-n.false c.base_of.ensures
     c.calls.ensures

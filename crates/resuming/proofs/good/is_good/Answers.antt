@@ -1,25 +1,19 @@
 -- `resuming::good::is_good` meets its contract.
-use Prim.Native.Nat.{◌+◌, ◌-◌, ◌<◌}
+use Prim.Native.Nat.{ℕ, ◌+◌, ◌-◌}
 use mathlib.Core.Path.{◌≡◌, ap}
 use native.Mathlib.Omega.{arith}
-use lib.ListN.{length, get_or}
-use Rattle.image.specs.Image.{size_of}
+use mathlib.Core.List.{List}
+use lib.ListN.{length}
+use Rattle.image.specs.Image.{code_at, size_of}
+use Rattle.image.specs.Rules.{ImageRules}
 use Rattle.resuming.proofs.MarkedCode.{marked_code}
 use Rattle.resuming.proofs.GoodStates.{end_told, below_code, past_code, unmarked, start_told}
 use borrow.Author.Rules.{rules}
 use Rattle.resuming.proofs.good.is_good.Goals as goal
 
 -- the image ends with its code
-size_is : (k : After-code_at) →
-    let image = k.args.image.now in
-    length image - k.code_at.result ≡ size_of image
-size_is k = omega (arith, k.code_at.ensures.value, (marked_code k.requires).code.layout.end)
-
--- a mark has 16 bits
-mark_fits : (q : After-shared_slice_known-4-1) →
-    get_or q.args.marks.now (q.args.registers.pc - q.base_of-base.result) 0 < 65536
-mark_fits q =
-    (q.shared_slice_known-4-1.given (q.args.registers.pc - q.base_of-base.result)).fits
+size_is : (image : List ℕ) {code : ℕ} → ImageRules image → code ≡ code_at image → length image - code ≡ size_of image
+size_is image layout is = omega (arith, layout.end)
 
 pub returns-then-pc-eq0 : goal.returns-then-pc-eq0
 returns-then-pc-eq0 c =
@@ -36,11 +30,11 @@ overflow_sub-image c = omega (arith, c.code_at.ensures.value, (marked_code c.req
 pub returns-then-image-code_at : goal.returns-then-image-code_at
 returns-then-image-code_at c =
     past_code c.args.image.now c.args.limits c.args.marks.now (marked_code c.requires) c.args.memory.now c.args.registers c.if-pc-eq0.false
-    (omega (arith, size_is c, c.if-image-code_at.true, c.base_of-base.ensures))
+    (omega (arith, size_is c.args.image.now (marked_code c.requires).code.layout c.code_at.ensures.value, c.if-image-code_at.true, c.base_of-base.ensures))
 
 pub bounds-marks-o : goal.bounds-marks-o
 bounds-marks-o c =
-    omega (arith, size_is c, c.if-image-code_at.false, (marked_code c.requires).enough)
+    omega (arith, size_is c.args.image.now (marked_code c.requires).code.layout c.code_at.ensures.value, c.if-image-code_at.false, (marked_code c.requires).enough)
 
 pub returns-then-mark-eq0 : goal.returns-then-mark-eq0
 returns-then-mark-eq0 c =
@@ -52,13 +46,13 @@ routine_of-r-requires c =
     rw c.count_of.ensures (marked_code c.requires).code.layout.count
 
 pub overflow_add-place : goal.overflow_add-place
-overflow_add-place c = omega (arith, c.depth_in.ensures, mark_fits c)
+overflow_add-place c = omega (arith, c.depth_in.ensures, (c.shared_slice_known-4-1.given (c.args.registers.pc - c.base_of-base.result)).fits)
 
 pub frames_hold-requires : goal.frames_hold-requires
 frames_hold-requires c = (
   c.requires,
   rw (← c.count_of.ensures) c.routine_of-r.ensures.upper_bound,
-  omega (arith, c.depth_in.ensures, mark_fits c),
+  omega (arith, c.depth_in.ensures, (c.shared_slice_known-4-1.given (c.args.registers.pc - c.base_of-base.result)).fits),
 )
 
 pub returns : goal.returns
@@ -66,6 +60,6 @@ returns c =
     let image = c.args.image.now in
     start_told image c.args.limits c.args.marks.now (marked_code c.requires) c.args.memory.now c.args.registers
     c.if-pc-eq0.false (c.args.registers.pc - c.base_of-base.result) c.routine_of-r.result
-    (omega (arith, c.base_of-base.ensures, c.if-pc-base.false)) (omega (arith, size_is c, c.if-image-code_at.false)) (omega (arith, c.if-mark-eq0.false))
+    (omega (arith, c.base_of-base.ensures, c.if-pc-base.false)) (omega (arith, size_is c.args.image.now (marked_code c.requires).code.layout c.code_at.ensures.value, c.if-image-code_at.false)) (omega (arith, c.if-mark-eq0.false))
     (rw c.count_of.ensures at (c.routine_of-r.ensures.by_index image (rw (← c.count_of.ensures) at c.requires.begin)))
     c.frames_hold.result _ (ap (λ d. c.args.registers.sp + d) c.depth_in.ensures) c.frames_hold.ensures
