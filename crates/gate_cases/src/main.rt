@@ -57,10 +57,8 @@ fn print_verdict(out: &mut impl Write, v: Verdict) -> io::Result<()> {
 
 fn print_marks(out: &mut impl Write, marks: &[u16]) -> io::Result<()> {
     print(out, b", marks")?;
-    let mut i = 0;
-    while i < marks.len() {
-        print_number(out, b" ", marks[i] as u64)?;
-        i += 1;
+    for &mark in marks {
+        print_number(out, b" ", mark as u64)?;
     }
     Ok(())
 }
@@ -79,10 +77,8 @@ fn print_top(out: &mut impl Write, memory: &[u8], high: u16) -> io::Result<()> {
 fn fill(memory: &mut [u8])
     ensures { length memory.new ≡ length memory.old }
 {
-    let mut at = 0;
-    while at < memory.len() {
+    for at in 0..memory.len() {
         memory[at] = (at % 251) as u8;
-        at += 1;
     }
 }
 
@@ -117,11 +113,9 @@ fn digest(memory: &[u8], grant: Area, second: Area, used: Area) -> u32
 {
     let mut a: u32 = 1;
     let mut b: u32 = 0;
-    let mut at = 0;
-    while at < memory.len() {
-        a = (a + counted(memory[at], at, grant, second, used)) % 65521;
+    for (at, &byte) in memory.iter().enumerate() {
+        a = (a + counted(byte, at, grant, second, used)) % 65521;
         b = (b + a) % 65521;
-        at += 1;
     }
     b * 65536 + a
 }
@@ -207,13 +201,11 @@ fn pieces(image: &[u8], limits: Limits, from: Registers, memory: &mut [u8]) -> P
     let mut registers = from;
     let mut steps = 0;
     let mut cycles = 0;
-    let mut k = 0;
-    while k < 1000 {
+    for k in 0..1000 {
         let next = piece(image, limits, registers, memory, k);
         registers = next.registers;
         steps = wrapping_add_u64(steps, next.steps);
         cycles = wrapping_add_u64(cycles, next.cycles);
-        k += 1;
         if registers.pc == 0 {
             break;
         }

@@ -28,10 +28,8 @@ fn print_number(out: &mut impl Write, name: &[u8], number: u64) -> io::Result<()
 // Every byte that was lent.
 fn print_bytes(out: &mut impl Write, bytes: &[u8]) -> io::Result<()> {
     print(out, b", ")?;
-    let mut i = 0;
-    while i < bytes.len() {
-        print(out, &byte_text(bytes[i]))?;
-        i += 1;
+    for &byte in bytes {
+        print(out, &byte_text(byte))?;
     }
     Ok(())
 }

@@ -45,20 +45,16 @@ fn print_cells(out: &mut impl Write, memory: &[u8], cells: &[u8]) -> io::Result<
 
 fn print_marks(out: &mut impl Write, marks: &[u16]) -> io::Result<()> {
     print(out, b", marks")?;
-    let mut i = 0;
-    while i < marks.len() {
-        print_number(out, b" ", marks[i] as u64)?;
-        i += 1;
+    for &mark in marks {
+        print_number(out, b" ", mark as u64)?;
     }
     Ok(())
 }
 
 // The bytes of a saved state.
 fn print_bytes(out: &mut impl Write, bytes: &[u8]) -> io::Result<()> {
-    let mut i = 0;
-    while i < bytes.len() {
-        print(out, &byte_text(bytes[i]))?;
-        i += 1;
+    for &byte in bytes {
+        print(out, &byte_text(byte))?;
     }
     Ok(())
 }
