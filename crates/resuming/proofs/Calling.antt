@@ -21,9 +21,9 @@ jump_calls_nobody false next n address = refl
 
 module _ (base o next address : ℕ) (x : Decoded) where
   pub call_none : (d : Decoded) → d ≡ x → NoInstruction d → false ≡ is_call_to base o next address x
-  call_none (Found i n) e k = absurd (⊎_elim (λ z. omega arith) (λ z. omega arith) k)
-  call_none Outside e k = rw (← e)
-  call_none Truncated e k = rw (← e)
+  call_none (Found i n) e none = absurd (none i n refl)
+  call_none Outside e none = rw (← e)
+  call_none Truncated e none = rw (← e)
 
   module _ {i : Instruction} {n : ℕ} (found : x ≡ Found i n) where
     pub call_elsewhere : (o + n ≡ next → ⊥) → false ≡ is_call_to base o next address x
