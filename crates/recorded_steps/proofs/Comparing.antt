@@ -1,11 +1,5 @@
 -- What the comparisons show: parts that are equal make wholes that are.
-use Prim.Native.Nat.{ℕ, ◌+◌}
-use mathlib.Core.Path.{◌≡◌, ◌∙◌}
-use mathlib.Core.Bool.{true}
-use mathlib.Core.List.{List, [], ◌∷◌}
-use lib.Dec.{eqb}
-use lib.ListN.{get_or, take, drop}
-use borrow.Author.Tests.{eqb-true}
+use Rattle.std.proofs.Common.{◌≡◌, ℕ, ◌+◌, List, [], ◌∷◌, get_or, take, drop, ◌∙◌}
 use Rattle.image.specs.Image.{limits_of}
 use Rattle.image.specs.declared.Limits.{Limits}
 use Rattle.execution.specs.Performing.{result}
@@ -16,15 +10,6 @@ use Rattle.execution.specs.declared.StepAnswer.{StepAnswer}
 use Rattle.execution.specs.declared.StepAnswer.TheVariants.{Made}
 use Rattle.vectors.specs.Bytes.{registers_of}
 use Rattle.recorded_steps.specs.Record.{longest_image, image_of, cells_before, cells_after, Goes, AsRecorded}
-
-equal : (a x y cc sp pc b z w dd tp qc : ℕ) → a ≡ b → x ≡ z → y ≡ w → cc ≡ dd → sp ≡ tp → pc ≡ qc →
-    ◌≡◌ {A = Registers} (record { a = a; x = x; y = y; cc = cc; sp = sp; pc = pc }) (record { a = b; x = z; y = w; cc = dd; sp = tp; pc = qc })
-equal a x y cc sp pc b z w dd tp qc e₁ e₂ e₃ e₄ e₅ e₆ = rw (e₁, e₂, e₃, e₄, e₅, e₆)
-
-pub registers_equal : (r s : Registers) →
-    r.a ≡ s.a → r.x ≡ s.x → r.y ≡ s.y → r.cc ≡ s.cc → r.sp ≡ s.sp → eqb r.pc s.pc ≡ true → r ≡ s
-registers_equal r s e₁ e₂ e₃ e₄ e₅ t =
-    equal r.a r.x r.y r.cc r.sp r.pc s.a s.x s.y s.cc s.sp s.pc e₁ e₂ e₃ e₄ e₅ (eqb-true r.pc s.pc t)
 
 same_result : (p q : StepAnswer) (r s : Registers) (m n : List ℕ) → p ≡ q → r ≡ s → m ≡ n → result p r m ≡ result q s n
 same_result p q r s m n e₁ e₂ e₃ = rw (e₁, e₂, e₃)
