@@ -6,8 +6,8 @@ use std::collections::BTreeSet;
 
 /// Paths that no clone has, and why a document names them.
 const ELSEWHERE: [(&str, &str); 3] = [
-    ("target/staticlib/libgate_c.a", "`rt staticlib gate_c` writes it"),
-    ("target/bin/gatecheck", "`rt check gatecheck` builds it"),
+    ("target/staticlib/libgate_c.a", "`host/rattle library` writes it"),
+    ("target/bin/gatecheck", "`host/rattle program gatecheck` writes it"),
     ("checker/specs/Sweep.antt", "the document tells that it is gone"),
 ];
 
