@@ -23,7 +23,7 @@ LEMMAS = {"given_back": "given_back_lem", "first_body": "first_body_lem", "laid_
 
 
 def snake(name):
-    return re.sub(r"(?<=[a-z0-9])([A-Z])", lambda m: "_" + m.group(1).lower(), name.replace("-", "_"))
+    return re.sub(r"(?<=[a-z0-9])([A-Z])", r"_\1", name.replace("-", "_")).lower()
 
 
 def files(root):

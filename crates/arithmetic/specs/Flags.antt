@@ -33,8 +33,8 @@ abbrev pub with_c : Bool → ℕ → ℕ
 with_c c cc = with_bit 0 c cc
 
 -- N and Z of a result of width w: N is its top bit, Z is set where it is zero
-unfoldable pub with_nZ : ℕ → ℕ → ℕ → ℕ
-with_nZ w r cc = with_n (is_set (w - 1) r) (with_z (r == 0) cc)
+unfoldable pub with_nz : ℕ → ℕ → ℕ → ℕ
+with_nz w r cc = with_n (is_set (w - 1) r) (with_z (r == 0) cc)
 
 -- the bits of CC that no operation puts in: bit 6, I1 and I0
 unfoldable pub rest : ℕ → List ℕ

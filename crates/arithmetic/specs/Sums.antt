@@ -2,7 +2,7 @@
 use Rattle.std.specs.Prelude.{ℕ, ◌+◌, ◌-◌, ◌%◌, ◌^◌, Bool, false, cond, nat_le, nat_lt}
 use Rattle.std.specs.Bool.{xor}
 use Rattle.numbers.specs.Bits.{flag}
-use Rattle.arithmetic.specs.Flags.{with_v, with_c, with_nZ}
+use Rattle.arithmetic.specs.Flags.{with_v, with_c, with_nz}
 
 -- a + m + c modulo 2^w
 unfoldable pub sum : ℕ → ℕ → ℕ → Bool → ℕ
@@ -30,14 +30,14 @@ difference_overflow w a m c = xor (borrow_out (w - 1) a m c) (borrow_out (w - 2)
 
 -- CC after a sum and after a difference: V - - - N Z C
 unfoldable pub after_sum : ℕ → ℕ → ℕ → Bool → ℕ → ℕ
-after_sum w a m c cc = with_v (sum_overflow w a m c) (with_c (carry_out (w - 1) a m c) (with_nZ w (sum w a m c) cc))
+after_sum w a m c cc = with_v (sum_overflow w a m c) (with_c (carry_out (w - 1) a m c) (with_nz w (sum w a m c) cc))
 
 unfoldable pub after_difference : ℕ → ℕ → ℕ → Bool → ℕ → ℕ
-after_difference w a m c cc = with_v (difference_overflow w a m c) (with_c (borrow_out (w - 1) a m c) (with_nZ w (difference w a m c) cc))
+after_difference w a m c cc = with_v (difference_overflow w a m c) (with_c (borrow_out (w - 1) a m c) (with_nz w (difference w a m c) cc))
 
 -- CC after dst + 1 and after dst - 1: V - - - N Z -
 unfoldable pub after_increment : ℕ → ℕ → ℕ → ℕ
-after_increment w m cc = with_v (sum_overflow w m 1 false) (with_nZ w (sum w m 1 false) cc)
+after_increment w m cc = with_v (sum_overflow w m 1 false) (with_nz w (sum w m 1 false) cc)
 
 unfoldable pub after_decrement : ℕ → ℕ → ℕ → ℕ
-after_decrement w m cc = with_v (difference_overflow w m 1 false) (with_nZ w (difference w m 1 false) cc)
+after_decrement w m cc = with_v (difference_overflow w m 1 false) (with_nz w (difference w m 1 false) cc)

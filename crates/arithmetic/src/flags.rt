@@ -1,6 +1,6 @@
 // The flags of CC.
 ghost use Rattle.std.specs.Prelude.{◌≡◌};
-ghost use Rattle.arithmetic.specs.Flags.{flag_v, flag_n, flag_z, flag_c, with_v, with_h, with_n, with_z, with_c, with_nZ};
+ghost use Rattle.arithmetic.specs.Flags.{flag_v, flag_n, flag_z, flag_c, with_v, with_h, with_n, with_z, with_c, with_nz};
 
 use crate::bits::{is_set, with_bit};
 
@@ -62,14 +62,14 @@ fn with_n_and_z(n: bool, z: bool, cc: u8) -> u8
 
 // CC with N and Z of a byte.
 pub fn with_nz_of_byte(value: u8, cc: u8) -> u8
-    ensures { result ≡ with_nZ 8 value cc }
+    ensures { result ≡ with_nz 8 value cc }
 {
     with_n_and_z(is_set(7, value), value == 0, cc)
 }
 
 // CC with N and Z of a word.
 pub fn with_nz_of_word(value: u16, cc: u8) -> u8
-    ensures { result ≡ with_nZ 16 value cc }
+    ensures { result ≡ with_nz 16 value cc }
 {
     with_n_and_z(value / 32768 % 2 == 1, value == 0, cc)
 }

@@ -8,13 +8,13 @@ use Rattle.stm8.specs.declared.FlagOp.{FlagOp}
 use Rattle.stm8.specs.declared.FlagOp.TheVariants.{Ccf, Rcf, Rvf, Scf}
 use Rattle.arithmetic.specs.Flags.{Keeps}
 use Rattle.arithmetic.proofs.Kept.{kept-bits}
-use Rattle.byte_operations.specs.Accumulator.{added, subtracted, result_nZ, alu_result}
-use Rattle.byte_operations.specs.Unary.{result_nZC, shifted_left, shifted_right, modify_result}
+use Rattle.byte_operations.specs.Accumulator.{added, subtracted, result_nz, alu_result}
+use Rattle.byte_operations.specs.Unary.{result_nzc, shifted_left, shifted_right, modify_result}
 use Rattle.byte_operations.specs.BitOperations.{bit_tested}
 use Rattle.byte_operations.specs.FlagOperations.{flag_result}
 
 pub alu_keeps : (o : AluOp) (a m cc : ℕ) → Keeps cc (alu_result o a m cc).cc
-unfolding added subtracted result_nZ alu_result
+unfolding added subtracted result_nz alu_result
 alu_keeps Adc a m cc = simp kept-bits
 alu_keeps Add a m cc = simp kept-bits
 alu_keeps And a m cc = simp kept-bits
@@ -27,7 +27,7 @@ alu_keeps Sub a m cc = simp kept-bits
 alu_keeps Xor a m cc = simp kept-bits
 
 pub modify_keeps : (o : ModifyOp) (m cc : ℕ) → Keeps cc (modify_result o m cc).cc
-unfolding result_nZ result_nZC shifted_left shifted_right modify_result
+unfolding result_nz result_nzc shifted_left shifted_right modify_result
 modify_keeps Clr m cc = simp kept-bits
 modify_keeps Cpl m cc = simp kept-bits
 modify_keeps Dec m cc = simp kept-bits

@@ -1,6 +1,6 @@
 // The operations on A with an operand: A and CC after each.
 ghost use Rattle.std.specs.Prelude.{◌≡◌};
-ghost use Rattle.byte_operations.specs.Accumulator.{added as added_of, subtracted as subtracted_of, result_nZ, alu_result};
+ghost use Rattle.byte_operations.specs.Accumulator.{added as added_of, subtracted as subtracted_of, result_nz, alu_result};
 
 use crate::ByteResult;
 use arithmetic::{flags, sums};
@@ -29,7 +29,7 @@ pub(crate) fn subtracted(a: u8, m: u8, c: bool, cc: u8) -> ByteResult
 
 // A value that affects N and Z alone.
 pub(crate) fn result_nz(value: u8, cc: u8) -> ByteResult
-    ensures { result ≡ result_nZ value cc }
+    ensures { result ≡ result_nz value cc }
 {
     ByteResult {
         value,

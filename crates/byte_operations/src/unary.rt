@@ -1,6 +1,6 @@
 // The operations on one byte: the byte and CC after each.
 ghost use Rattle.std.specs.Prelude.{◌≡◌};
-ghost use Rattle.byte_operations.specs.Unary.{result_nZC, shifted_left, shifted_right, modify_result};
+ghost use Rattle.byte_operations.specs.Unary.{result_nzc, shifted_left, shifted_right, modify_result};
 
 use crate::ByteResult;
 use crate::accumulator::{result_nz, subtracted};
@@ -11,7 +11,7 @@ use stm8::ModifyOp;
 
 // A value that affects N, Z and C.
 fn result_nzc(value: u8, c: bool, cc: u8) -> ByteResult
-    ensures { result ≡ result_nZC value c cc }
+    ensures { result ≡ result_nzc value c cc }
 {
     ByteResult {
         value,

@@ -11,7 +11,7 @@ use Rattle.stm8.specs.declared.Operand.{Operand}
 use Rattle.stm8.specs.declared.Operand.TheVariants.{Accumulator, Immediate, ImmediateWord, Short, Long, Indexed, Sp}
 use Rattle.stm8.specs.declared.Instruction.{Instruction}
 use Rattle.stm8.specs.declared.Instruction.TheVariants as I
-use Rattle.arithmetic.specs.Flags.{with_nZ}
+use Rattle.arithmetic.specs.Flags.{with_nz}
 use Rattle.byte_operations.specs.declared.ByteResult.{ByteResult}
 use Rattle.byte_operations.specs.Accumulator.{alu_result}
 use Rattle.byte_operations.specs.Unary.{modify_result}
@@ -68,12 +68,12 @@ exchanged regs = record { a = regs.a; x = regs.y; y = regs.x; cc = regs.cc; stor
 -- and POPW read above SP, and a call stores the address after it, 16 bits
 unfoldable pub computed : List ℕ → List ℕ → Registers → ℕ → Instruction → Computed
 computed image memory regs next (I.Alu o x) = with_a regs (alu_result o regs.a (byte_of image memory regs x) regs.cc)
-computed image memory regs next (I.Store x) = storing regs regs.a (with_nZ 8 regs.a regs.cc)
+computed image memory regs next (I.Store x) = storing regs regs.a (with_nz 8 regs.a regs.cc)
 computed image memory regs next (I.LoadHalf r h) = with_a regs (record { value = half_of h (index_of regs r); cc = regs.cc })
 computed image memory regs next (I.StoreHalf r h) = with_index regs r (record { value = with_half h (index_of regs r) regs.a; cc = regs.cc })
 computed image memory regs next (I.Modify o x) = into_operand regs x (modify_result o (byte_of image memory regs x) regs.cc)
 computed image memory regs next (I.LoadWord r x) = with_index regs r (ldw_result (word_of image memory regs x) regs.cc)
-computed image memory regs next (I.StoreWord r x) = storing regs (index_of regs r) (with_nZ 16 (index_of regs r) regs.cc)
+computed image memory regs next (I.StoreWord r x) = storing regs (index_of regs r) (with_nz 16 (index_of regs r) regs.cc)
 computed image memory regs next (I.CopyWord r) = with_index regs r (record { value = index_of regs (other_of r); cc = regs.cc })
 computed image memory regs next (I.WordAlu o r w) = with_index regs r (word_alu_result o (index_of regs r) w regs.cc)
 computed image memory regs next (I.WordModify o r) = with_index regs r (word_modify_result o (index_of regs r) regs.cc)

@@ -2,7 +2,7 @@
 // operand's byte or word has been read before.
 ghost use Rattle.std.specs.Prelude.{◌≡◌, false};
 ghost use Rattle.stm8.specs.IndexRegisters.{other_of};
-ghost use Rattle.arithmetic.specs.Flags.{with_nZ};
+ghost use Rattle.arithmetic.specs.Flags.{with_nz};
 ghost use Rattle.byte_operations.specs.Accumulator.{alu_result};
 ghost use Rattle.byte_operations.specs.Unary.{modify_result};
 ghost use Rattle.byte_operations.specs.BitOperations.{bit_result, bit_holds, bit_tested};
@@ -61,7 +61,7 @@ impl Registers {
 
     // LD operand,A
     pub(crate) fn store_a(self) -> Computed
-        ensures { result ≡ storing_of self self.a (with_nZ 8 self.a self.cc) }
+        ensures { result ≡ storing_of self self.a (with_nz 8 self.a self.cc) }
     {
         self.storing(self.a as u16, with_nz_of_byte(self.a, self.cc))
     }
@@ -95,7 +95,7 @@ impl Registers {
 
     // LDW operand,register
     pub(crate) fn store_word(self, r: Register) -> Computed
-        ensures { result ≡ storing_of self (index_of self r) (with_nZ 16 (index_of self r) self.cc) }
+        ensures { result ≡ storing_of self (index_of self r) (with_nz 16 (index_of self r) self.cc) }
     {
         let w = self.index(r);
         self.storing(w, with_nz_of_word(w, self.cc))

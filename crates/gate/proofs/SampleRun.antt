@@ -69,7 +69,7 @@ seen_from p = map seen (history (run (record { image = sample; limits = limits }
 
 runs_from : seen_from (record { state = record { registers = begun sample limits 1 0 0 0; memory = cleared limits memory }; book = empty_book }) ≡ trace
 unfolding xor Bits.bit Checks.first Checks.both Checks.under Checks.unless Checks.differ Folds.first_in Folds.total Lists.same Words.word Words.high
-    Words.low CC.with_bit Flags.with_nZ Sums.borrow_out Sums.difference Sums.difference_overflow Sums.after_decrement Accumulator.result_nZ Unary.modify_result
+    Words.low CC.with_bit Flags.with_nz Sums.borrow_out Sums.difference Sums.difference_overflow Sums.after_decrement Accumulator.result_nz Unary.modify_result
     relative wholly granted Set.decoded_for Code.decoded_at Image.version_of Image.base_of Image.count_of Image.lengths_of Image.length_at Image.code_at Image.code_of Image.size_of
     Image.start_of Image.end_of Image.main_of Words.word_at Validation.area_check Validation.apart Validation.second_check Validation.limits_check Validation.mark_check
     Validation.version_check Validation.length_check Validation.lengths_check Validation.header_check Validation.layout_check Validation.refusal Reading.read_byte

@@ -5,13 +5,13 @@ use Rattle.stm8.specs.declared.WordAluOp.{WordAluOp}
 use Rattle.stm8.specs.declared.WordAluOp.TheVariants.{Addw, Cpw, Subw}
 use Rattle.stm8.specs.declared.WordModifyOp.{WordModifyOp}
 use Rattle.stm8.specs.declared.WordModifyOp.TheVariants.{Clrw, Decw, Incw}
-use Rattle.arithmetic.specs.Flags.{with_h, with_n, with_z, with_c, with_nZ}
+use Rattle.arithmetic.specs.Flags.{with_h, with_n, with_z, with_c, with_nz}
 use Rattle.arithmetic.specs.Sums.{sum, carry_out, difference, borrow_out, after_sum, after_difference, after_increment, after_decrement}
 use Rattle.index_operations.specs.declared.WordResult.{WordResult}
 
 -- LDW: src: - - - - N Z -
 unfoldable pub ldw_result : ℕ → ℕ → WordResult
-ldw_result m cc = record { value = m; cc = with_nZ 16 m cc }
+ldw_result m cc = record { value = m; cc = with_nz 16 m cc }
 
 unfoldable pub word_alu_result : WordAluOp → ℕ → ℕ → ℕ → WordResult
 -- dst + src: V - H - N Z C, with H the carry out of bit 7

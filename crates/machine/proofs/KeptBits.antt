@@ -15,7 +15,7 @@ use Rattle.stm8.specs.declared.Instruction.TheVariants as I
 use Rattle.stm8.specs.declared.Decoded.{Decoded}
 use Rattle.stm8.specs.declared.Decoded.TheVariants.{Found, Outside, Truncated}
 use Rattle.arithmetic.specs.Flags.{rest, Keeps}
-use Rattle.arithmetic.proofs.Kept.{rest_NZ}
+use Rattle.arithmetic.proofs.Kept.{rest_nz}
 use Rattle.byte_operations.specs.declared.ByteResult.{ByteResult}
 use Rattle.byte_operations.proofs.Kept.{alu_keeps, modify_keeps, flag_keeps, bit_test_keeps}
 use Rattle.index_operations.specs.declared.WordResult.{WordResult}
@@ -59,12 +59,12 @@ module _ (image memory : List ℕ) (regs : Registers) (next : ℕ) where
   computed_keeps : (i : Instruction) → Keeps regs.cc (computed image memory regs next i).cc
   unfolding computed
   computed_keeps (I.Alu o x) = alu_keeps o regs.a (byte_of image memory regs x) regs.cc
-  computed_keeps (I.Store x) = rest_NZ 8 regs.a regs.cc
+  computed_keeps (I.Store x) = rest_nz 8 regs.a regs.cc
   computed_keeps (I.LoadHalf r h) = refl
   computed_keeps (I.StoreHalf r h) = into_index r _ refl
   computed_keeps (I.Modify o x) = into_place x _ (modify_keeps o (byte_of image memory regs x) regs.cc)
   computed_keeps (I.LoadWord r x) = into_index r _ (ldw_keeps (word_of image memory regs x) regs.cc)
-  computed_keeps (I.StoreWord r x) = rest_NZ 16 (index_of regs r) regs.cc
+  computed_keeps (I.StoreWord r x) = rest_nz 16 (index_of regs r) regs.cc
   computed_keeps (I.CopyWord r) = into_index r _ refl
   computed_keeps (I.WordAlu o r w) = into_index r _ (word_alu_keeps o (index_of regs r) w regs.cc)
   computed_keeps (I.WordModify o r) = into_index r _ (word_modify_keeps o (index_of regs r) regs.cc)

@@ -39,8 +39,8 @@ use Rattle.worked.specs.Cases.{outcome, expected, cases}
 
 pub all_hold : map outcome cases ≡ map expected cases
 unfolding xor Bits.bit Checks.first Checks.both Checks.under Checks.unless Checks.differ Folds.first_in Folds.total Lists.same Words.word Words.high
-    Words.low Words.word_at CC.with_bit Flags.with_nZ Sums.sum Sums.carry_out Sums.borrow_out Sums.difference Sums.sum_overflow Sums.after_sum
-    Accumulator.added Accumulator.result_nZ Accumulator.alu_result Unary.modify_result WordResults.mul_result Effects.relative Effects.jump_target
+    Words.low Words.word_at CC.with_bit Flags.with_nz Sums.sum Sums.carry_out Sums.borrow_out Sums.difference Sums.sum_overflow Sums.after_sum
+    Accumulator.added Accumulator.result_nz Accumulator.alu_result Unary.modify_result WordResults.mul_result Effects.relative Effects.jump_target
     Effects.call_target wholly granted Image.version_of Image.base_of Image.count_of Image.lengths_of Image.length_at Image.code_at Image.code_of Image.size_of
     Image.layout_of Image.start_of Image.end_of Image.main_of Validation.area_check Validation.apart Validation.second_check Validation.limits_check Validation.mark_check
     Validation.version_check Validation.length_check Validation.lengths_check Validation.header_check Validation.layout_check Validation.refusal

@@ -1,5 +1,4 @@
 -- `effects::effect_of` meets its contract.
-use borrow.Author.Rules.{rules}
 use Rattle.effects.proofs.effect_of.Goals as goal
 
 pub returns-in-Alu : goal.returns-in-Alu

@@ -1,5 +1,4 @@
 -- `effects::jump_flow` meets its contract.
-use borrow.Author.Rules.{rules}
 use Rattle.effects.proofs.jump_flow.Goals as goal
 
 pub returns-then-falls_through : goal.returns-then-falls_through

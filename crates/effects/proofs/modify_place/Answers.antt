@@ -1,5 +1,4 @@
 -- `effects::modify_place` meets its contract.
-use borrow.Author.Rules.{rules}
 use Rattle.effects.proofs.modify_place.Goals as goal
 
 pub returns-then-writes_back : goal.returns-then-writes_back

@@ -1,5 +1,4 @@
 -- `effects::place_of` meets its contract.
-use borrow.Author.Rules.{rules}
 use Rattle.effects.proofs.place_of.Goals as goal
 
 pub returns-in-Short : goal.returns-in-Short

@@ -1,7 +1,6 @@
 -- `effects::relative` meets its contract: a difference of numbers stops at 0, as the code does.
 use native.Mathlib.Omega.{arith}
 use borrow.Author.Tests.{lt-ltb, le-ltb}
-use borrow.Author.Rules.{rules}
 use Rattle.stm8.specs.Effects.{relative}
 use Rattle.effects.proofs.relative.Goals as goal
 

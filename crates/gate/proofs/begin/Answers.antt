@@ -1,5 +1,4 @@
 -- `gate::begin` meets its contract.
-use borrow.Author.Rules.{rules}
 use Rattle.gate.proofs.Starting.{cleared_bytes}
 use Rattle.gate.proofs.begin.Goals as goal
 

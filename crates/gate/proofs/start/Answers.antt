@@ -1,5 +1,4 @@
 -- `gate::start` meets its contract: each answer is one way through a start.
-use borrow.Author.Rules.{rules}
 use Rattle.gate.proofs.Starting.{start_17, start_refused, start_accepted, numbered_17, numbered_check, start_ready}
 use Rattle.gate.proofs.start.Goals as goal
 

@@ -1,5 +1,4 @@
 -- `hexadecimal::digit` meets its contract.
-use borrow.Author.Rules.{rules}
 use borrow.Author.Tests.{lt-ltb, le-ltb, le-leb, lt-leb}
 use Rattle.hexadecimal.specs.Text.{digit}
 use Rattle.hexadecimal.proofs.digit.Goals as goal

@@ -1,5 +1,4 @@
 -- `hexadecimal::pair` meets its contract.
-use borrow.Author.Rules.{rules}
 use Rattle.hexadecimal.proofs.Spelling.{two_digits, not_second, not_first}
 use Rattle.hexadecimal.proofs.pair.Goals as goal
 

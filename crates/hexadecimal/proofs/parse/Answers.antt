@@ -1,10 +1,9 @@
 -- `hexadecimal::parse` meets its contract: at each turn the bytes so far, and those that the rest spells, are the whole.
-use Prim.Native.Nat.{◌≤◌, ◌<◌, ◌-◌}
+use Prim.Native.Nat.{◌<◌}
 use mathlib.Core.Path.{◌≡◌, refl}
 use native.Mathlib.Omega.{arith}
-use lib.ListN.{length, take, drop, length-set}
-use Rattle.hexadecimal.specs.Text.{spelled}
-use Rattle.hexadecimal.proofs.Spelling.{Whole, begun, stored, skipped, full, ended, after_stored, both_parts}
+use lib.ListN.{length, length-set}
+use Rattle.hexadecimal.proofs.Spelling.{begun, stored, skipped, full, ended, after_stored, both_parts}
 use Rattle.hexadecimal.proofs.parse.Goals as goal
 
 pub loop-i-init : goal.loop-i-init

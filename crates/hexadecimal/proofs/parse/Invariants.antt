@@ -1,10 +1,9 @@
 -- `hexadecimal::parse` meets its contract: at each turn the bytes so far, and those that the rest spells, are the whole.
-use Prim.Native.Nat.{◌≤◌, ◌<◌, ◌-◌}
-use mathlib.Core.Path.{◌≡◌, refl}
-use native.Mathlib.Omega.{arith}
-use lib.ListN.{length, take, drop, length-set}
+use Prim.Native.Nat.{◌≤◌, ◌-◌}
+use mathlib.Core.Path.{◌≡◌}
+use lib.ListN.{length, take, drop}
 use Rattle.hexadecimal.specs.Text.{spelled}
-use Rattle.hexadecimal.proofs.Spelling.{Whole, begun, stored, skipped, full, ended, after_stored, both_parts}
+use Rattle.hexadecimal.proofs.Spelling.{Whole}
 use Rattle.hexadecimal.proofs.parse.Given as goal
 
 abbrev pub invariant-loop-i : goal.invariant-loop-i

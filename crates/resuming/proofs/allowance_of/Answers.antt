@@ -1,7 +1,6 @@
 -- `resuming::allowance_of` meets its contract.
 use native.Mathlib.Omega.{arith}
 use Rattle.resuming.specs.Resuming.{allowance}
-use borrow.Author.Rules.{rules}
 use Rattle.resuming.proofs.allowance_of.Goals as goal
 
 pub returns-then-left-budget : goal.returns-then-left-budget

@@ -5,7 +5,6 @@ use Rattle.resuming.specs.Resuming.{resumed}
 use Rattle.resuming.proofs.MarkedCode.{marked_code}
 use Rattle.resuming.proofs.GoodRuns.{ends_well}
 use Rattle.resuming.proofs.RefusedRecords.{both_passed, refused_accepted}
-use borrow.Author.Rules.{rules}
 use Rattle.resuming.proofs.resume_accepted.Goals as goal
 
 pub returns-then-number-ne0 : goal.returns-then-number-ne0

@@ -1,5 +1,5 @@
 -- `arithmetic::bits::with_bit` meets its contract: the old bit is taken away and the new one added.
-use Rattle.std.proofs.Common.{rules, le-ltb}
+use Rattle.std.proofs.Common.{le-ltb}
 use Rattle.arithmetic.specs.Bits.{with_bit}
 use Rattle.arithmetic.proofs.BitLaws.{old_bit_le, exchanged, exchanged_fits}
 use Rattle.arithmetic.proofs.bits.with_bit.Goals as goal

@@ -1,5 +1,4 @@
 -- `arithmetic::sums::after_byte_difference` meets its contract.
-use Rattle.std.proofs.Common.{rules}
 use Rattle.arithmetic.specs.Sums.{after_difference}
 use Rattle.arithmetic.proofs.sums.after_byte_difference.Goals as goal
 

@@ -1,5 +1,4 @@
 -- `arithmetic::sums::after_byte_increment` meets its contract.
-use Rattle.std.proofs.Common.{rules}
 use Rattle.arithmetic.specs.Sums.{after_increment}
 use Rattle.arithmetic.proofs.sums.after_byte_increment.Goals as goal
 

@@ -1,5 +1,4 @@
 -- `arithmetic::sums::after_byte_sum` meets its contract.
-use Rattle.std.proofs.Common.{rules}
 use Rattle.arithmetic.specs.Sums.{after_sum}
 use Rattle.arithmetic.proofs.sums.after_byte_sum.Goals as goal
 

@@ -1,5 +1,4 @@
 -- `arithmetic::sums::after_word_decrement` meets its contract.
-use Rattle.std.proofs.Common.{rules}
 use Rattle.arithmetic.specs.Sums.{after_decrement}
 use Rattle.arithmetic.proofs.sums.after_word_decrement.Goals as goal
 

@@ -1,5 +1,4 @@
 -- `arithmetic::sums::after_word_difference` meets its contract.
-use Rattle.std.proofs.Common.{rules}
 use Rattle.arithmetic.specs.Sums.{after_difference}
 use Rattle.arithmetic.proofs.sums.after_word_difference.Goals as goal
 

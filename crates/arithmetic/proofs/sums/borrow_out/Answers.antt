@@ -1,5 +1,5 @@
 -- `arithmetic::sums::borrow_out` meets its contract: the limit is 2 to the power of n + 1.
-use Rattle.std.proofs.Common.{arith, rules}
+use Rattle.std.proofs.Common.{arith}
 use Rattle.arithmetic.specs.Sums.{borrow_out}
 use Rattle.arithmetic.proofs.BitLaws.{flag_le}
 use Rattle.arithmetic.proofs.SumLaws.{limit, limit_positive, below_limit}

@@ -1,5 +1,5 @@
 -- `arithmetic::sums::byte_difference` meets its contract: what wraps back to a is the difference.
-use Rattle.std.proofs.Common.{arith, rules}
+use Rattle.std.proofs.Common.{arith}
 use Rattle.numbers.specs.Bits.{flag}
 use Rattle.arithmetic.specs.Sums.{difference, borrow_out}
 use Rattle.arithmetic.proofs.BitLaws.{flag_le}

@@ -1,6 +1,5 @@
 -- `arithmetic::sums::difference_overflow` meets its contract.
 use mathlib.Core.Bool.{xor}
-use Rattle.std.proofs.Common.{rules}
 use Rattle.arithmetic.specs.Sums.{difference_overflow}
 use Rattle.arithmetic.proofs.sums.difference_overflow.Goals as goal
 

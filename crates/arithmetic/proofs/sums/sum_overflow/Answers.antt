@@ -1,6 +1,5 @@
 -- `arithmetic::sums::sum_overflow` meets its contract.
 use mathlib.Core.Bool.{xor}
-use Rattle.std.proofs.Common.{rules}
 use Rattle.arithmetic.specs.Sums.{sum_overflow}
 use Rattle.arithmetic.proofs.sums.sum_overflow.Goals as goal
 

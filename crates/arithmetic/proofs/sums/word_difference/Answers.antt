@@ -1,5 +1,5 @@
 -- `arithmetic::sums::word_difference` meets its contract: what wraps back to a is the difference.
-use Rattle.std.proofs.Common.{arith, rules}
+use Rattle.std.proofs.Common.{arith}
 use Rattle.arithmetic.specs.Sums.{difference, borrow_out}
 use Rattle.arithmetic.proofs.SumLaws.{wrapped}
 use Rattle.arithmetic.proofs.sums.word_difference.Goals as goal

@@ -1,8 +1,8 @@
 -- `byte_operations::accumulator::result_nz` meets its contract.
 use borrow.Author.Rules.{rules}
-use Rattle.byte_operations.specs.Accumulator.{result_nZ}
+use Rattle.byte_operations.specs.Accumulator.{result_nz}
 use Rattle.byte_operations.proofs.accumulator.result_nz.Goals as goal
 
 pub returns : goal.returns
-unfolding result_nZ
+unfolding result_nz
 returns c = cc

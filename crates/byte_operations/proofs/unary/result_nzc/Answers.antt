@@ -1,8 +1,8 @@
 -- `byte_operations::unary::result_nzc` meets its contract.
 use borrow.Author.Rules.{rules}
-use Rattle.byte_operations.specs.Unary.{result_nZC}
+use Rattle.byte_operations.specs.Unary.{result_nzc}
 use Rattle.byte_operations.proofs.unary.result_nzc.Goals as goal
 
 pub returns : goal.returns
-unfolding result_nZC
+unfolding result_nzc
 returns c = cc

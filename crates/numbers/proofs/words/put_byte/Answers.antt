@@ -1,7 +1,6 @@
 -- `numbers::words::put_byte` meets its contract: past the end of a list `set` changes nothing.
 use mathlib.Core.Path.{sym}
 use lib.Seq.{set_out}
-use borrow.Author.Rules.{rules}
 use Rattle.numbers.proofs.words.put_byte.Goals as goal
 
 pub returns-else-at-bytes : goal.returns-else-at-bytes

@@ -11,7 +11,6 @@ use Rattle.code.specs.Code.{instruction_in}
 use Rattle.resuming.specs.Internal.{is_call_to}
 use Rattle.resuming.proofs.MarkedCode.{marked_code}
 use Rattle.resuming.proofs.NearestCall.{call_low, call_high, call_told}
-use borrow.Author.Rules.{rules}
 use Rattle.resuming.proofs.frames.call_before.Goals as goal
 
 -- the code has bytes, and the image ends with it

@@ -5,7 +5,6 @@ use native.Mathlib.Omega.{arith}
 use Rattle.image.specs.Image.{base_of}
 use Rattle.resuming.proofs.MarkedCode.{marked_code}
 use Rattle.resuming.proofs.Walking.{caller_told}
-use borrow.Author.Rules.{rules}
 use Rattle.resuming.proofs.frames.caller_of.Goals as goal
 
 -- a mark has 16 bits

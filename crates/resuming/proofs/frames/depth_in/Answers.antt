@@ -1,5 +1,4 @@
 -- `resuming::frames::depth_in` meets its contract.
-use borrow.Author.Rules.{rules}
 use native.Mathlib.Omega.{arith}
 use Rattle.resuming.proofs.frames.depth_in.Goals as goal
 

@@ -1,13 +1,6 @@
 -- `resuming::frames::frames_hold` meets its contract. The loop's invariant: the frames of the first routine hold exactly where those of this one do.
-use Prim.Native.Nat.{ℕ, ◌+◌, ◌-◌}
-use mathlib.Core.Path.{◌≡◌}
-use mathlib.Core.List.{List}
-use native.Mathlib.Omega.{arith}
-use borrow.Author.Rules.{rules}
-use lib.Dec.{eqb}
-use Rattle.image.specs.Image.{count_of, main_of}
-use Rattle.resuming.proofs.MarkedCode.{marked_code}
-use Rattle.resuming.proofs.Walking.{past_top, off_top, main_told, fails, holds, Reaches, reaches_caller, reaches_told}
+use Prim.Native.Nat.{◌+◌, ◌-◌}
+use Rattle.resuming.proofs.Walking.{Reaches}
 use Rattle.resuming.proofs.frames.frames_hold.Given as goal
 
 abbrev pub invariant-loop-r : goal.invariant-loop-r

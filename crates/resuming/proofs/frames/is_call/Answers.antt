@@ -10,7 +10,6 @@ use Rattle.image.specs.Rules.{ImageRules}
 use Rattle.code.proofs.Parts.{code_cut}
 use Rattle.code.specs.Code.{decoded_at, instruction_in}
 use Rattle.resuming.proofs.Calling.{call_none, call_elsewhere, call_here}
-use borrow.Author.Rules.{rules}
 use Rattle.resuming.proofs.frames.is_call.Goals as goal
 
 -- the image ends with its code

@@ -1,9 +1,6 @@
 -- `resuming::frames::nearest_below` meets its contract. The loop's invariant: no offset above this one and below k is marked.
 use Prim.Native.Nat.{ℕ, ◌<◌}
 use mathlib.Core.Path.{◌≡◌}
-use mathlib.Core.Logic.{by_cases}
-use native.Mathlib.Decide.{ℕ_discrete}
-use native.Mathlib.Omega.{arith}
 use lib.ListN.{get_or}
 use Rattle.resuming.proofs.frames.nearest_below.Given as goal
 

@@ -8,7 +8,6 @@ use Rattle.image.specs.Image.{code_at, size_of}
 use Rattle.image.specs.Rules.{ImageRules}
 use Rattle.resuming.proofs.MarkedCode.{marked_code}
 use Rattle.resuming.proofs.GoodStates.{end_told, below_code, past_code, unmarked, start_told}
-use borrow.Author.Rules.{rules}
 use Rattle.resuming.proofs.good.is_good.Goals as goal
 
 -- the image ends with its code
