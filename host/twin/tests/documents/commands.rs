@@ -11,7 +11,7 @@ use std::{env, fs};
 /// Commands that are not run as printed: the line, where * stands for its rest; what is run in its place, with that rest, if
 /// anything is; and why.
 const INSTEAD: [(&str, Option<&str>, &str); 11] = [
-    (".ci/run", None, "proves everything from nothing"),
+    (".ci/run", None, "proves every crate"),
     ("host/test", None, "runs this test"),
     ("bench/run", None, "measures for half a minute, and needs uCsim"),
     ("make", None, "proves for minutes, by rt"),
