@@ -7,8 +7,7 @@ use native.Mathlib.Decide.{dec_lt}
 use native.Mathlib.Nat.{le_trans}
 use native.Mathlib.Omega.{arith}
 use borrow.Author.Tests.{lt-ltb, le-ltb}
-use lib.ListN.{length, take, drop, length-append}
-use lib.Seq.{take-length}
+use lib.ListN.{length, drop, length-append}
 use Rattle.notation.specs.Writing.{longest}
 use Rattle.disassembly.specs.Text.{text, placed}
 use Rattle.stm8.specs.declared.Instruction.{Instruction}

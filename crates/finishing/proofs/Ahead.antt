@@ -2,7 +2,7 @@
 use Prim.Native.Nat.{ℕ, zero, suc, ◌+◌, ◌<◌}
 use mathlib.Core.Path.{◌≡◌, refl, sym}
 use mathlib.Core.Bool.{Bool, true, false, cond, false≢true}
-use mathlib.Core.List.{List, ◌∷◌}
+use mathlib.Core.List.{List, [], ◌∷◌}
 use mathlib.Core.Option.{some}
 use native.Mathlib.Nat.{zero-add, add-zero}
 use native.Mathlib.Omega.{arith}
@@ -25,6 +25,7 @@ none_more true rest e = absurd (false≢true (sym e))
 none_more false rest e = (refl, e)
 
 none_in : {A : Type 0} (test : A → Bool) {x : A} (l : List A) → some_in test l ≡ false → In x l → test x ≡ false
+none_in test [] e i = elim i [ ]
 none_in test (x ∷ l) e head = (none_more (test x) (some_in test l) e).0
 none_in test (y ∷ l) e (tail i) = none_in test l (none_more (test y) (some_in test l) e).1 i
 

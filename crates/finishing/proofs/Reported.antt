@@ -12,12 +12,11 @@ use Rattle.numbers.specs.Lists.{Bytes}
 use Rattle.image.specs.declared.Limits.{Limits}
 use Rattle.image.specs.Image.{main_of}
 use Rattle.rules.specs.declared.Verdict.{Verdict}
-use Rattle.rules.specs.declared.Verdict.TheVariants as Verdict
 use Rattle.acceptance.specs.Check.{checked}
 use Rattle.machine.specs.Run.{ran}
 use Rattle.gate.specs.Start.{started}
 use Rattle.turns.specs.Turn.{some_jumps_back, turn_of, answer_of, by_verdict, turned}
-use Rattle.turns.specs.declared.TurnAnswer.TheVariants.{Refused, NoTurn, Over, Within}
+use Rattle.turns.specs.declared.TurnAnswer.TheVariants.{NoTurn, Over, Within}
 use Rattle.finishing.specs.Finishing.{FinishedWithin, in_pieces}
 use Rattle.finishing.proofs.Finishing.{finishes_within, finishes_in_pieces}
 

@@ -1,26 +1,25 @@
 -- A line is judged well formed exactly when it is.
-use Prim.Native.Nat.{ℕ, zero, suc, ◌+◌, ◌-◌, ◌*◌, ◌/◌, ◌%◌, ◌<◌, ◌≤◌}
+use Prim.Native.Nat.{ℕ, zero, suc, ◌+◌, ◌-◌, ◌*◌, ◌%◌, ◌<◌, ◌≤◌}
 use mathlib.Core.Path.{◌≡◌, refl, sym, ap, ◌∙◌, subst}
 use mathlib.Core.Bool.{Bool, true, false, true≢false, cond}
 use mathlib.Core.List.{List, [], ◌∷◌, ◌++◌, append_assoc, append-nil}
 use native.Mathlib.Omega.{arith}
-use lib.Dec.{eqb, ltb, leb}
-use lib.ListN.{length, get_or, take, drop, length-append}
-use lib.Seq.{append_snoc, take_at}
-use borrow.Author.Tests.{lt-ltb, ltb-true, le-ltb, ne_eqb, eqb-true, eq-eqb}
+use lib.Dec.{eqb, ltb}
+use lib.ListN.{length, get_or, take, drop}
+use borrow.Author.Tests.{lt-ltb, ltb-true, ne_eqb, eqb-true}
 use Rattle.numbers.specs.Folds.{total, first_in}
 use Rattle.numbers.specs.Lists.{Bytes}
-use Rattle.numbers.specs.Words.{word, word_at, high, low}
-use Rattle.numbers.specs.Checks.{first, under, unless, differ}
+use Rattle.numbers.specs.Words.{word, word_at}
+use Rattle.numbers.specs.Checks.{first, differ}
 use Rattle.numbers.proofs.WordLaws.{high_word, low_word}
 use Rattle.numbers.proofs.Checking.{by_cond, first_zero, unless_zero, differ_zero, under_zero, under_pass, differ_pass}
 use Rattle.numbers.proofs.Folding.{◌&◌}
-use Rattle.hex_records.specs.Digits.{Spells, none, more, Digit, byte_of, pairs, all_bytes}
+use Rattle.hex_records.specs.Digits.{Spells, none, more, byte_of, pairs, all_bytes}
 use Rattle.hex_records.specs.Records.{checksum, record_front, record_bytes}
 use Rattle.hex_records.specs.Judging.{line_bytes, length_in, address_in, type_in, data_in, shape_check, form_check}
 use Rattle.hex_records.specs.Lines.{LineEnd, lf, crlf, Line}
 use Rattle.hex_records.proofs.Spelling as Spelling
-use Rattle.hex_records.proofs.Spelling.{NoLf, total_last, declared_byte, declared_small, declared_not_lf, TwoDigits, byte_digits_lem}
+use Rattle.hex_records.proofs.Spelling.{NoLf, total_last, declared_byte, declared_small, declared_not_lf, byte_digits_lem}
 use Rattle.hex_records.proofs.RecordLaws.{form_check_lem}
 
 -- From the meaning: digits that spell bytes, with or without CR

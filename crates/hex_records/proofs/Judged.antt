@@ -1,23 +1,22 @@
 -- A line's judgement from the bytes that were looked up.
-use Prim.Native.Nat.{ℕ, zero, suc, ◌+◌, ◌-◌, ◌*◌, ◌%◌, ◌<◌, ◌≤◌}
-use mathlib.Core.Path.{◌≡◌, refl, sym, ap, ◌∙◌, subst}
-use mathlib.Core.Bool.{Bool, true, false, cond}
-use mathlib.Core.List.{List, [], ◌∷◌, ◌++◌}
+use Prim.Native.Nat.{ℕ, ◌+◌, ◌*◌, ◌≤◌}
+use mathlib.Core.Path.{◌≡◌, refl, sym, ap}
+use mathlib.Core.Bool.{cond}
+use mathlib.Core.List.{List, [], ◌∷◌}
 use native.Mathlib.Omega.{arith}
-use lib.Dec.{eqb, ltb}
-use lib.ListN.{length, get_or, take, drop}
-use borrow.Author.Tests.{eq-eqb, ne_eqb}
+use lib.Dec.{eqb}
+use lib.ListN.{length, get_or, drop}
+use borrow.Author.Tests.{ne_eqb}
 use Rattle.numbers.specs.Checks.{first, under, unless, differ}
-use Rattle.numbers.specs.Folds.{total, first_in}
+use Rattle.numbers.specs.Folds.{first_in}
 use Rattle.numbers.specs.Words.{word, word_at}
 use Rattle.numbers.proofs.Folding.{first_none}
 use Rattle.hex_records.specs.Digits.{pairs, all_bytes}
-use Rattle.hex_records.specs.Judging.{line_bytes, length_in, address_in, type_in, shape_check, open_check, follow_check, form_check, line_check, after}
+use Rattle.hex_records.specs.Judging.{line_bytes, length_in, address_in, type_in, shape_check, open_check, follow_check, form_check, line_check}
 use Rattle.hex_records.specs.Internal.{summed_of}
 use Rattle.hex_records.specs.declared.Summed.{Summed}
 use Rattle.hex_records.proofs.Refusals.{by_form}
 use Rattle.hex_records.specs.declared.Place.{Place}
-use Rattle.hex_records.specs.declared.Place.TheVariants.{First, Next, Ended}
 
 pub rest_check : (place : Place) (bytes : List ℕ) (all : Summed) (n h l kind : ℕ) → all ≡ summed_of bytes → n ≡ get_or bytes 0 0 → h ≡ get_or bytes 1 0 →
     l ≡ get_or bytes 2 0 → kind ≡ get_or bytes 3 0 →

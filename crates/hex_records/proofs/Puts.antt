@@ -1,13 +1,11 @@
 -- Writing one thing behind another, and a record's bytes looked up.
 use Prim.Native.Nat.{ℕ, zero, suc, ◌+◌, ◌-◌, ◌*◌, ◌/◌, ◌%◌, ◌<◌, ◌≤◌}
 use mathlib.Core.Path.{◌≡◌, refl, sym, ap, ◌∙◌, subst}
-use mathlib.Core.Bool.{Bool, true, false, cond}
-use mathlib.Core.List.{List, [], ◌∷◌, ◌++◌, append_assoc, append-nil}
+use mathlib.Core.List.{List, [], ◌∷◌, ◌++◌, append_assoc}
 use native.Mathlib.Omega.{arith}
 use native.Mathlib.Numerals.{add-one}
-use lib.Dec.{eqb, ltb}
 use lib.ListN.{length, get_or, take, drop, set, length-set, length-append, length-drop, take-append-drop}
-use lib.Seq.{take-suc, take_all, take_at, drop_at, drop-drop, set_split, length-take-le, get_or_at, get_or-append-add, drop-append-add}
+use lib.Seq.{take-suc, take_all, take_at, drop-drop, set_split, length-take-le, get_or_at, drop-append-add}
 use Rattle.numbers.specs.Folds.{total}
 use Rattle.numbers.specs.Words.{high, low}
 use Rattle.numbers.proofs.Folding.{total_more}

@@ -13,9 +13,9 @@ use Rattle.numbers.specs.Words.{word_at, high, low}
 use Rattle.numbers.proofs.WordLaws.{word_high_low}
 use Rattle.numbers.proofs.Checking.{under_pass, differ_pass, unless_pass}
 use Rattle.numbers.proofs.Folding.{◌&◌}
-use Rattle.hex_records.specs.Digits.{pairs, all_bytes, spelled}
+use Rattle.hex_records.specs.Digits.{all_bytes}
 use Rattle.hex_records.specs.Records.{checksum, record_front, record_bytes, line_body}
-use Rattle.hex_records.specs.Judging.{line_bytes, length_in, address_in, type_in, data_in, shape_check, open_check, follow_check, form_check, line_check, after}
+use Rattle.hex_records.specs.Judging.{line_bytes, length_in, address_in, type_in, data_in, shape_check, open_check, follow_check, form_check, line_check}
 use Rattle.hex_records.specs.declared.Place.{Place}
 use Rattle.hex_records.proofs.Spelling.{NoLf, more, all_bytes_lem, pairs_spelled, spelled_not_lf, total_last}
 

@@ -1,12 +1,11 @@
 -- What a line is refused with: 30 where its form is wrong or the end record was read, else by its type and its place.
 use Prim.Native.Nat.{ℕ, suc, ◌≤◌}
-use mathlib.Core.Path.{◌≡◌, refl, ap, ◌∙◌, subst}
-use mathlib.Core.Bool.{cond}
+use mathlib.Core.Path.{◌≡◌, refl, ◌∙◌, subst}
 use mathlib.Core.List.{List}
 use native.Mathlib.Omega.{arith}
 use lib.Dec.{eqb}
 use borrow.Author.Tests.{lt-ltb, ne_eqb}
-use Rattle.numbers.specs.Checks.{first, under, unless, differ}
+use Rattle.numbers.specs.Checks.{first, under, differ}
 use Rattle.numbers.specs.Folds.{first_in}
 use Rattle.numbers.proofs.Checking.{first_zero, first_pass, differ_pass}
 use Rattle.numbers.proofs.Numbering.{Numbered, pass, not_zero, ◌then◌, tested, under_numbered, unless_numbered, differ_numbered}

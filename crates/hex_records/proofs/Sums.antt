@@ -1,15 +1,14 @@
 -- The bytes of a line together, one by one.
-use Prim.Native.Nat.{ℕ, zero, suc, ◌+◌, ◌-◌, ◌%◌, ◌<◌, ◌≤◌}
-use mathlib.Core.Path.{◌≡◌, refl, sym, ap, ◌∙◌, subst}
+use Prim.Native.Nat.{ℕ, ◌+◌, ◌%◌, ◌<◌, ◌≤◌}
+use mathlib.Core.Path.{◌≡◌, refl, sym, ◌∙◌}
 use mathlib.Core.Bool.{Bool, true, false, cond}
-use mathlib.Core.List.{List, [], ◌∷◌, ◌++◌}
+use mathlib.Core.List.{List}
 use native.Mathlib.Omega.{arith}
-use lib.Dec.{eqb, ltb}
-use lib.ListN.{length, get_or, take, drop}
-use lib.Seq.{take_all, drop-cons, drop-drop, take-add}
-use borrow.Author.Tests.{ne_eqb, eqb-true, eqb-false}
+use lib.Dec.{ltb}
+use lib.ListN.{length, get_or, take}
+use lib.Seq.{take_all}
 use Rattle.numbers.specs.Folds.{total}
-use Rattle.hex_records.specs.Digits.{pairs, all_bytes}
+use Rattle.hex_records.specs.Digits.{all_bytes}
 use Rattle.hex_records.specs.Internal.{summed_of}
 use Rattle.hex_records.specs.declared.Summed.{Summed}
 use Rattle.hex_records.proofs.Values.{all_more, sum_more}

@@ -1,14 +1,14 @@
 -- The bytes of a line, looked up in its characters.
 use Prim.Native.Nat.{ℕ, zero, suc, ◌+◌, ◌-◌, ◌*◌, ◌/◌, ◌%◌, ◌<◌, ◌≤◌}
-use mathlib.Core.Path.{◌≡◌, refl, sym, ap, ◌∙◌, subst}
-use mathlib.Core.Bool.{Bool, true, false, true≢false, cond, not}
+use mathlib.Core.Path.{◌≡◌, refl, sym, ap, ◌∙◌}
+use mathlib.Core.Bool.{Bool, true, false, cond, not}
 use mathlib.Core.List.{List, [], ◌∷◌, ◌++◌}
 use native.Mathlib.Omega.{arith}
 use native.Mathlib.Numerals.{add-one}
 use lib.Dec.{eqb, ltb}
-use lib.ListN.{length, get_or, take, drop}
-use lib.Seq.{take-suc, take_all}
-use borrow.Author.Tests.{lt-ltb, ltb-true, le-ltb, ne_eqb, eq-eqb}
+use lib.ListN.{length, get_or, take}
+use lib.Seq.{take-suc}
+use borrow.Author.Tests.{ltb-true}
 use Rattle.numbers.specs.Folds.{total}
 use Rattle.numbers.proofs.Folding.{total_more}
 use Rattle.numbers.proofs.Checking.{by_test}

@@ -4,13 +4,13 @@ use mathlib.Core.Path.{◌≡◌, sym, ap, ◌∙◌}
 use mathlib.Core.Bool.{Bool, true, false, cond}
 use mathlib.Core.List.{List}
 use native.Mathlib.Omega.{arith}
-use lib.ListN.{length, get_or, take, drop, length-drop}
+use lib.ListN.{length, get_or, drop, length-drop}
 use lib.Seq.{get_or-take, get_or-drop}
 use Rattle.numbers.specs.Lists.{Bytes}
 use Rattle.hex_records.specs.Digits.{pairs}
 use Rattle.hex_records.specs.Internal.{lone}
 use Rattle.hex_records.specs.Judging.{line_bytes, length_in, data_in, form_check}
-use Rattle.hex_records.proofs.Forms.{Formed, formed, colon, all_at, parts}
+use Rattle.hex_records.proofs.Forms.{formed, colon, all_at, parts}
 use Rattle.hex_records.proofs.Judged.{colon_first, colon_bytes}
 use Rattle.hex_records.proofs.Values.{pairs_count}
 

@@ -1,9 +1,8 @@
 -- Parts that are not refused make an image that follows the rules.
-use Rattle.std.proofs.Common.{◌≡◌, ℕ, ◌+◌, ◌<◌, ◌≤◌, List, length, take, refl, inl, inr, arith, le-ltb, lt-ltb}
+use Rattle.std.proofs.Common.{◌≡◌, ℕ, ◌<◌, ◌≤◌, List, length, take, refl, inr, arith, le-ltb, lt-ltb}
 use Rattle.numbers.specs.Ascii.{ascii}
 use Rattle.numbers.specs.Checks.{first, under}
 use Rattle.numbers.specs.Folds.{first_in}
-use Rattle.image.specs.Image.{version_of}
 use Rattle.image.specs.Parts.{image_from}
 use Rattle.image.specs.Rules.{ImageRules}
 use Rattle.image.specs.Validation.{header_check, layout_check}

@@ -7,7 +7,6 @@ use lib.ListN.{length}
 use Rattle.numbers.specs.Lists.{Bytes}
 use Rattle.image.specs.declared.Limits.{Limits}
 use Rattle.rules.specs.declared.Verdict.{Verdict}
-use Rattle.rules.specs.declared.Verdict.TheVariants as Verdict
 use Rattle.acceptance.specs.Check.{checked}
 use Rattle.acceptance.specs.Passed.{depth_in}
 use Rattle.machine.specs.Run.{ran}

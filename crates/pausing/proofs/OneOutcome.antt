@@ -5,7 +5,6 @@ use mathlib.Core.List.{List}
 use Rattle.image.specs.declared.Limits.{Limits}
 use Rattle.rules.specs.Outcome.{values_of}
 use Rattle.rules.specs.declared.Verdict.{Verdict}
-use Rattle.rules.specs.declared.Verdict.TheVariants as Verdict
 use Rattle.machine.specs.declared.RunAnswer.{RunAnswer}
 use Rattle.saved_state.specs.Sls.{state_in}
 use Rattle.resuming.specs.Resuming.{zeros_for, Ends, finished, spent, ran_on, ResumesAccepted, unreadable, not_good, resumed, Resumes, no_memory, refused, accepted}

@@ -1,5 +1,5 @@
 -- From a good record a resumption runs on; a good point can be saved, and a record of it says where it stands.
-use Prim.Native.Nat.{ℕ, ◌+◌, ◌-◌, ◌≤◌}
+use Prim.Native.Nat.{ℕ, ◌+◌, ◌≤◌}
 use mathlib.Core.Path.{◌≡◌, refl, sym, ap, ◌∙◌}
 use mathlib.Core.List.{List}
 use native.Mathlib.Omega.{arith}
@@ -8,7 +8,6 @@ use Rattle.numbers.proofs.Checking.{under_pass}
 use Rattle.image.specs.declared.Limits.{Limits}
 use Rattle.image.proofs.Measuring.{end_inside}
 use Rattle.rules.specs.declared.Verdict.{Verdict}
-use Rattle.rules.specs.declared.Verdict.TheVariants as Verdict
 use Rattle.acceptance.specs.Check.{checked}
 use Rattle.execution.specs.declared.Registers.{Registers}
 use Rattle.machine.specs.Run.{ran}

@@ -10,7 +10,6 @@ use Rattle.stm8.proofs.EffectLaws.{by_call}
 use Rattle.stm8.specs.declared.Instruction.{Instruction}
 use Rattle.stm8.specs.declared.Instruction.TheVariants as I
 use Rattle.stm8.specs.declared.Effect.{Effect}
-use Rattle.stm8.specs.declared.Flow.{Flow}
 use Rattle.code.specs.Depth.{moves_depth, popped, pushed, after}
 
 -- a call leaves depth unchanged

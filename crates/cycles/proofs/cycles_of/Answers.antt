@@ -1,5 +1,4 @@
 -- `cycles::cycles_of` meets its contract.
-use borrow.Author.Rules.{rules}
 use Rattle.cycles.proofs.cycles_of.Goals as goal
 
 pub returns-in-Alu : goal.returns-in-Alu

@@ -1,5 +1,4 @@
 -- `cycles::jump_cycles` meets its contract.
-use borrow.Author.Rules.{rules}
 use Rattle.cycles.proofs.jump_cycles.Goals as goal
 
 pub returns-then-falls_through : goal.returns-then-falls_through

@@ -1,5 +1,4 @@
 -- `cycles::with_cycles` meets its contract.
-use borrow.Author.Rules.{rules}
 use Rattle.cycles.proofs.with_cycles.Goals as goal
 
 pub returns-in-Found : goal.returns-in-Found

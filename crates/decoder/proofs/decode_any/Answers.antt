@@ -1,7 +1,6 @@
 -- `decoder::decode_any` meets its contract: the first byte selects the page.
 use mathlib.Core.Path.{ap, ◌∙◌}
 use lib.ListN.{get_or}
-use borrow.Author.Rules.{rules}
 use Rattle.stm8.specs.OpcodeMap.{Plain, After72, After90}
 use Rattle.stm8.specs.Decoding.{table_of}
 use Rattle.decoder.proofs.Selected.{page_72, page_90, page_plain, on_table}

@@ -1,6 +1,5 @@
 -- `decoder::decode_by` meets its contract.
 use mathlib.Core.Path.{ap, sym, ◌∙◌}
-use borrow.Author.Rules.{rules}
 use Rattle.stm8.specs.Decoding.{decoding_number}
 use Rattle.decoder.proofs.Known.{not_found, in_map, not_in_map}
 use Rattle.decoder.proofs.decode_by.Goals as goal

@@ -4,9 +4,8 @@ use mathlib.Core.Path.{sym}
 use native.Mathlib.Omega.{arith}
 use lib.ListN.{length, take}
 use lib.Seq.{length-take-le}
-use borrow.Author.Rules.{rules}
 use Rattle.disassembly.specs.Text.{text}
-use Rattle.notation.proofs.Growing.{Holds, written_holds}
+use Rattle.notation.proofs.Growing.{written_holds}
 use Rattle.disassembly.proofs.Placing.{placed_short, placed_copy}
 use Rattle.disassembly.proofs.Sizes.{text_size}
 use Rattle.disassembly.proofs.disassemble.Goals as goal

@@ -1,6 +1,5 @@
 -- `encoder::append` meets its contract: the tests on the length that led to each return pick the case.
 use borrow.Author.Tests.{le-ltb, lt-ltb, ne_eqb}
-use borrow.Author.Rules.{rules}
 use Rattle.encoder.proofs.append.Goals as goal
 
 pub returns-then-length-eq0 : goal.returns-then-length-eq0

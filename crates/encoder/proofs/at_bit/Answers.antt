@@ -1,6 +1,5 @@
 -- `encoder::at_bit` meets its contract: the test says whether the bit position is in range.
 use borrow.Author.Tests.{le-leb, lt-leb}
-use borrow.Author.Rules.{rules}
 use Rattle.encoder.proofs.at_bit.Goals as goal
 
 pub returns-then-position-le7 : goal.returns-then-position-le7

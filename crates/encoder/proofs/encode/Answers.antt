@@ -1,5 +1,4 @@
 -- `encoder::encode` meets its contract. In each arm the variant is known: a line for what the arm's calls ask, then one for what it returns.
-use borrow.Author.Rules.{rules}
 use Prim.Native.Nat.{◌+◌, ◌*◌}
 use lib.Dec.{leb}
 use Rattle.stm8.specs.Encoding.{test_code}

@@ -1,5 +1,4 @@
 -- `encoder::indexed` meets its contract. In each arm the variant is known: a line for what the arm's calls ask, then one for what it returns.
-use borrow.Author.Rules.{rules}
 use Rattle.encoder.proofs.Forms.{on_register_byte, on_register_word}
 use Rattle.encoder.proofs.indexed.Goals as goal
 

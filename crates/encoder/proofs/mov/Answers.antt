@@ -1,5 +1,4 @@
 -- `encoder::mov` meets its contract. In each arm the variant is known: a line for what the arm's calls ask, then one for what it returns.
-use borrow.Author.Rules.{rules}
 use Rattle.encoder.proofs.Forms.{mov_long_lem, mov_short_lem}
 use Rattle.encoder.proofs.mov.Goals as goal
 

@@ -1,5 +1,4 @@
 -- `encoder::on_operand` meets its contract. In each arm the variant is known: a line for what the arm's calls ask, then one for what it returns.
-use borrow.Author.Rules.{rules}
 use Rattle.encoder.proofs.on_operand.Goals as goal
 
 pub returns-in-Accumulator : goal.returns-in-Accumulator

@@ -1,5 +1,4 @@
 -- `encoder::on_register` meets its contract, for either register.
-use borrow.Author.Rules.{rules}
 use Rattle.encoder.proofs.on_register.Goals as goal
 
 pub returns-in-X : goal.returns-in-X

@@ -1,5 +1,4 @@
 -- `encoder::word_alu` meets its contract. In each arm the variant is known: a line for what the arm's calls ask, then one for what it returns.
-use borrow.Author.Rules.{rules}
 use Rattle.encoder.proofs.Forms.{on_register_word}
 use Rattle.encoder.proofs.word_alu.Goals as goal
 

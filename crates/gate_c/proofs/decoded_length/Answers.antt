@@ -1,5 +1,4 @@
 -- `gate_c::decoded_length` meets its contract.
-use borrow.Author.Rules.{rules}
 use Rattle.gate_c.proofs.decoded_length.Goals as goal
 
 pub returns-in-Found : goal.returns-in-Found

@@ -1,5 +1,4 @@
 -- `gate_c::gate_check` meets its contract.
-use borrow.Author.Rules.{rules}
 use Rattle.gate_c.proofs.Answers.{checked_by}
 use Rattle.gate_c.proofs.gate_check.Goals as goal
 

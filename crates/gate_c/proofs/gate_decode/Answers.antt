@@ -6,7 +6,6 @@ use Rattle.stm8.specs.Decoding.{decoded}
 use Rattle.cycles.specs.Timed.{with_cycles}
 use Rattle.cycles.specs.declared.Timed.{Timed}
 use Rattle.code.proofs.Sets.{whole_map}
-use borrow.Author.Rules.{rules}
 use Rattle.gate_c.proofs.gate_decode.Goals as goal
 
 pub returns : goal.returns

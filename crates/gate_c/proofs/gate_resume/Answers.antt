@@ -1,6 +1,5 @@
 -- `gate_c::gate_resume` meets its contract.
 use Rattle.gate_c.proofs.Answers.{resumed_into}
-use borrow.Author.Rules.{rules}
 use Rattle.gate_c.proofs.gate_resume.Goals as goal
 
 pub returns : goal.returns

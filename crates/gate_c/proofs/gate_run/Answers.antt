@@ -1,6 +1,5 @@
 -- `gate_c::gate_run` meets its contract.
 use mathlib.Core.Path.{refl}
-use borrow.Author.Rules.{rules}
 use Rattle.gate_c.proofs.Answers.{ran_by}
 use Rattle.gate_c.proofs.gate_run.Goals as goal
 

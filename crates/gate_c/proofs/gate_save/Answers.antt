@@ -1,6 +1,5 @@
 -- `gate_c::gate_save` meets its contract.
 use mathlib.Core.Path.{refl}
-use borrow.Author.Rules.{rules}
 use Rattle.gate_c.proofs.gate_save.Goals as goal
 
 pub returns : goal.returns

@@ -1,5 +1,4 @@
 -- `gate_c::gate_start` meets its contract.
-use borrow.Author.Rules.{rules}
 use Rattle.gate_c.proofs.Answers.{started_by_lem}
 use Rattle.gate_c.proofs.gate_start.Goals as goal
 

@@ -1,5 +1,4 @@
 -- `gate_c::gate_step` meets its contract.
-use borrow.Author.Rules.{rules}
 use Rattle.gate_c.proofs.Answers.{stepped_by}
 use Rattle.gate_c.proofs.gate_step.Goals as goal
 

@@ -1,5 +1,4 @@
 -- `gate_c::gate_step_back` meets its contract.
-use borrow.Author.Rules.{rules}
 use Rattle.gate_c.proofs.Answers.{back_by}
 use Rattle.gate_c.proofs.gate_step_back.Goals as goal
 

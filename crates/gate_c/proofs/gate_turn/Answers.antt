@@ -1,5 +1,4 @@
 -- `gate_c::gate_turn` meets its contract.
-use borrow.Author.Rules.{rules}
 use Rattle.gate_c.proofs.Answers.{turned_by}
 use Rattle.gate_c.proofs.gate_turn.Goals as goal
 

@@ -1,6 +1,5 @@
 -- `gate_c::limits_in` meets its contract.
 use mathlib.Core.Path.{refl}
-use borrow.Author.Rules.{rules}
 use Rattle.gate_c.proofs.limits_in.Goals as goal
 
 pub returns : goal.returns

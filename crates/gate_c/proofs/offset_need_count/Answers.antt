@@ -1,5 +1,4 @@
 -- `gate_c::offset_need_count` meets its contract.
-use borrow.Author.Rules.{rules}
 use Rattle.gate_c.proofs.offset_need_count.Goals as goal
 
 pub returns-in-Accepted : goal.returns-in-Accepted

@@ -4,7 +4,6 @@ use mathlib.Core.Path.{ap, ◌∙◌}
 use mathlib.Core.List.{List}
 use lib.Dec.{lit≤}
 use lib.ListN.{replicate}
-use borrow.Author.Rules.{rules}
 use Rattle.disassembly.proofs.Placing.{text_placed}
 use Rattle.disassembly.specs.declared.Written.{Written}
 use Rattle.gate_c.proofs.put_text.Goals as goal

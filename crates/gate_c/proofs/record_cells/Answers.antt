@@ -1,5 +1,4 @@
 -- `gate_c::record_cells` meets its contract: a value fits its type, so it is read back.
-use borrow.Author.Rules.{rules}
 use Rattle.gate_c.proofs.Answers.{read_record}
 use Rattle.gate_c.proofs.record_cells.Goals as goal
 

@@ -1,5 +1,4 @@
 -- `gate_c::record_in` meets its contract.
-use borrow.Author.Rules.{rules}
 use Rattle.gate_c.proofs.record_in.Goals as goal
 
 pub returns : goal.returns

@@ -1,7 +1,6 @@
 -- `gate_c::register_cells` meets its contract: a register fits its type, so it is read back.
 use mathlib.Core.Path.{refl}
 use native.Mathlib.Omega.{arith}
-use borrow.Author.Rules.{rules}
 use Rattle.gate_c.proofs.Answers.{read_back}
 use Rattle.gate_c.proofs.register_cells.Goals as goal
 

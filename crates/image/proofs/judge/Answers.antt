@@ -2,7 +2,6 @@
 use Rattle.numbers.specs.Folds.{first_in}
 use Rattle.numbers.proofs.Folding.{first_assoc, first_none}
 use Rattle.image.specs.Validation.{validated, refusal}
-use Rattle.std.proofs.Common.{rules}
 use Rattle.image.proofs.judge.Goals as goal
 
 pub returns : goal.returns

@@ -1,5 +1,4 @@
 -- `image::measure` meets its contract.
-use Rattle.std.proofs.Common.{rules}
 use Rattle.image.proofs.measure.Goals as goal
 
 pub returns : goal.returns

@@ -1,5 +1,5 @@
 -- `image::measure_after` meets its contract.
-use Rattle.std.proofs.Common.{sym, ◌∙◌, rules}
+use Rattle.std.proofs.Common.{sym, ◌∙◌}
 use Rattle.image.proofs.Layouts.{begins_whole}
 use Rattle.image.proofs.measure_after.Goals as goal
 

@@ -1,5 +1,5 @@
 -- `image::measure_alone` meets its contract.
-use Rattle.std.proofs.Common.{sym, ◌∙◌, rules}
+use Rattle.std.proofs.Common.{sym, ◌∙◌}
 use Rattle.image.proofs.Alone.{some_limits, some_pass, laid_out_lem}
 use Rattle.image.proofs.measure_alone.Goals as goal
 

@@ -1,5 +1,4 @@
 -- `image::validate` meets its contract.
-use Rattle.std.proofs.Common.{rules}
 use Rattle.image.proofs.validate.Goals as goal
 
 pub returns : goal.returns

@@ -1,5 +1,4 @@
 -- `index_operations::ldw` meets its contract.
-use borrow.Author.Rules.{rules}
 use Rattle.index_operations.specs.Words.{ldw_result}
 use Rattle.index_operations.proofs.ldw.Goals as goal
 

@@ -2,7 +2,6 @@
 use Prim.Native.Nat.{ℕ, ◌*◌, ◌<◌}
 use native.Mathlib.Omega.{arith}
 use native.Mathlib.Nat.{lt_of_le_of_lt, mul-le-mul}
-use borrow.Author.Rules.{rules}
 use Rattle.index_operations.specs.Words.{mul_result}
 use Rattle.index_operations.proofs.mul.Goals as goal
 

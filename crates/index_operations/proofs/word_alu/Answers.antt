@@ -1,5 +1,4 @@
 -- `index_operations::word_alu` meets its contract.
-use borrow.Author.Rules.{rules}
 use Rattle.index_operations.specs.Words.{word_alu_result}
 use Rattle.index_operations.proofs.word_alu.Goals as goal
 

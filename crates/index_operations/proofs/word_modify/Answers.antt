@@ -1,5 +1,4 @@
 -- `index_operations::word_modify` meets its contract.
-use borrow.Author.Rules.{rules}
 use Rattle.numbers.specs.Bits.{bit}
 use Rattle.arithmetic.specs.Flags.{with_nz}
 use Rattle.index_operations.specs.Words.{ldw_result, word_modify_result}

@@ -1,10 +1,9 @@
 -- `layout_cells::filled_cells` meets its contract. The loop's invariant: the cells of the routines before k are there, and no others are changed.
-use Prim.Native.Nat.{ℕ, ◌-◌, ◌≤◌}
+use Prim.Native.Nat.{ℕ, ◌-◌}
 use mathlib.Core.Path.{◌≡◌, refl, subst}
 use mathlib.Core.List.{List}
 use native.Mathlib.Omega.{arith}
 use lib.ListN.{length}
-use borrow.Author.Rules.{rules}
 use Rattle.layout_cells.proofs.Filling.{Filled, filled_none, filled_next, filled_all}
 use Rattle.layout_cells.proofs.filled_cells.Goals as goal
 

@@ -1,6 +1,5 @@
 -- `layout_cells::layout_of` meets its contract.
 use mathlib.Core.Path.{refl, sym, ◌∙◌}
-use borrow.Author.Rules.{rules}
 use Rattle.image.proofs.Layouts.{valid_bounds}
 use Rattle.layout_cells.proofs.LaidOut.{told}
 use Rattle.layout_cells.proofs.layout_of.Goals as goal

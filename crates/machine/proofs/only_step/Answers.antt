@@ -1,5 +1,4 @@
 -- `machine::only_step` meets its contract.
-use borrow.Author.Rules.{rules}
 use borrow.Author.Tests.{ne_eqb}
 use Rattle.machine.proofs.only_step.Goals as goal
 

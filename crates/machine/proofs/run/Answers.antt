@@ -1,6 +1,5 @@
 -- `machine::run` meets its contract: refused, or a run of a valid image.
 use mathlib.Core.Path.{sym, ◌∙◌}
-use borrow.Author.Rules.{rules}
 use Rattle.machine.proofs.StepLaws.{refuses, validates}
 use Rattle.machine.proofs.RunLaws.{refused_at_once}
 use Rattle.machine.proofs.CycleLaws.{none_refused}

@@ -1,6 +1,5 @@
 -- `machine::step` meets its contract: a step is a run of one step.
 use mathlib.Core.Path.{◌∙◌}
-use borrow.Author.Rules.{rules}
 use Rattle.machine.proofs.OnlyStep.{step_by_run}
 use Rattle.machine.proofs.CycleLaws.{one_step}
 use Rattle.machine.proofs.Numbers.{step_answered}

@@ -1,5 +1,4 @@
 -- `timing::decode_timed` meets its contract.
-use borrow.Author.Rules.{rules}
 use Rattle.timing.proofs.decode_timed.Goals as goal
 
 pub returns : goal.returns

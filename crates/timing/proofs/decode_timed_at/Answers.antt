@@ -1,7 +1,6 @@
 -- `timing::decode_timed_at` meets its contract.
 use mathlib.Core.Path.{ap, ◌∙◌}
 use Rattle.cycles.specs.Timed.{with_cycles}
-use borrow.Author.Rules.{rules}
 use Rattle.timing.proofs.decode_timed_at.Goals as goal
 
 pub returns : goal.returns

@@ -1,6 +1,5 @@
 -- `vectors::put_byte_digits` meets its contract.
 use native.Mathlib.Numerals.{add-one}
-use borrow.Author.Rules.{rules}
 use Rattle.vectors.proofs.put_byte_digits.Goals as goal
 
 pub returns : goal.returns

@@ -1,10 +1,7 @@
 -- `vectors::put_cells` meets its contract: at each turn the cells that are left give the whole.
-use Prim.Native.Nat.{◌≤◌, ◌-◌}
-use mathlib.Core.Path.{◌≡◌, refl}
+use Prim.Native.Nat.{◌-◌}
+use mathlib.Core.Path.{refl}
 use native.Mathlib.Omega.{arith}
-use lib.ListN.{length, drop}
-use borrow.Author.Rules.{rules}
-use Rattle.vectors.specs.Bytes.{with_cells}
 use Rattle.vectors.proofs.Cells.{same_length as keeps-length, turn, end}
 use Rattle.vectors.proofs.put_cells.Goals as goal
 

@@ -1,11 +1,8 @@
 -- `vectors::put_cells` meets its contract: at each turn the cells that are left give the whole.
 use Prim.Native.Nat.{◌≤◌, ◌-◌}
-use mathlib.Core.Path.{◌≡◌, refl}
-use native.Mathlib.Omega.{arith}
+use mathlib.Core.Path.{◌≡◌}
 use lib.ListN.{length, drop}
-use borrow.Author.Rules.{rules}
 use Rattle.vectors.specs.Bytes.{with_cells}
-use Rattle.vectors.proofs.Cells.{same_length as keeps-length, turn, end}
 use Rattle.vectors.proofs.put_cells.Given as goal
 
 abbrev pub invariant-loop-at : goal.invariant-loop-at

@@ -1,6 +1,5 @@
 -- `vectors::put_word_digits` meets its contract.
 use native.Mathlib.Numerals.{add-two}
-use borrow.Author.Rules.{rules}
 use Rattle.vectors.proofs.put_word_digits.Goals as goal
 
 pub returns : goal.returns

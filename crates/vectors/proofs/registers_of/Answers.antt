@@ -1,5 +1,4 @@
 -- `vectors::registers_of` meets its contract.
-use borrow.Author.Rules.{rules}
 use Rattle.vectors.proofs.registers_of.Goals as goal
 
 pub returns : goal.returns

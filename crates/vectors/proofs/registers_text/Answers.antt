@@ -1,5 +1,4 @@
 -- `vectors::registers_text` meets its contract: the digits stand where the dots stood.
-use borrow.Author.Rules.{rules}
 use Rattle.vectors.proofs.registers_text.Goals as goal
 
 pub returns : goal.returns

@@ -1,5 +1,4 @@
 -- `byte_operations::accumulator::added` meets its contract.
-use borrow.Author.Rules.{rules}
 use Rattle.byte_operations.specs.Accumulator.{added}
 use Rattle.byte_operations.proofs.accumulator.added.Goals as goal
 

@@ -1,5 +1,4 @@
 -- `byte_operations::accumulator::alu` meets its contract.
-use borrow.Author.Rules.{rules}
 use Rattle.byte_operations.specs.Accumulator.{alu_result}
 use Rattle.byte_operations.proofs.accumulator.alu.Goals as goal
 

@@ -1,5 +1,4 @@
 -- `byte_operations::accumulator::result_nz` meets its contract.
-use borrow.Author.Rules.{rules}
 use Rattle.byte_operations.specs.Accumulator.{result_nz}
 use Rattle.byte_operations.proofs.accumulator.result_nz.Goals as goal
 

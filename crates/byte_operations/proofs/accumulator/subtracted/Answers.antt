@@ -1,5 +1,4 @@
 -- `byte_operations::accumulator::subtracted` meets its contract.
-use borrow.Author.Rules.{rules}
 use Rattle.byte_operations.specs.Accumulator.{subtracted}
 use Rattle.byte_operations.proofs.accumulator.subtracted.Goals as goal
 

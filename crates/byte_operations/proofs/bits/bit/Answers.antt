@@ -1,5 +1,4 @@
 -- `byte_operations::bits::bit` meets its contract.
-use borrow.Author.Rules.{rules}
 use Rattle.byte_operations.proofs.bits.bit.Goals as goal
 
 pub returns-in-Bccm : goal.returns-in-Bccm

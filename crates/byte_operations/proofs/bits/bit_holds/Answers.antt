@@ -1,5 +1,4 @@
 -- `byte_operations::bits::bit_holds` meets its contract.
-use borrow.Author.Rules.{rules}
 use Rattle.byte_operations.proofs.bits.bit_holds.Goals as goal
 
 pub returns-in-Btjt : goal.returns-in-Btjt

@@ -1,5 +1,4 @@
 -- `byte_operations::flags::flag` meets its contract.
-use borrow.Author.Rules.{rules}
 use Rattle.byte_operations.proofs.flags.flag.Goals as goal
 
 pub returns-in-Ccf : goal.returns-in-Ccf

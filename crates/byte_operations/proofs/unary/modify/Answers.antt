@@ -1,7 +1,6 @@
 -- `byte_operations::unary::modify` meets its contract: NEG is the difference 00 - dst.
 use mathlib.Core.Path.{sym}
 use native.Mathlib.Omega.{arith}
-use borrow.Author.Rules.{rules}
 use Rattle.numbers.specs.Bits.{bit}
 use Rattle.arithmetic.specs.Flags.{with_nz}
 use Rattle.byte_operations.specs.Accumulator.{result_nz, alu_result}

@@ -1,5 +1,4 @@
 -- `byte_operations::unary::result_nzc` meets its contract.
-use borrow.Author.Rules.{rules}
 use Rattle.byte_operations.specs.Unary.{result_nzc}
 use Rattle.byte_operations.proofs.unary.result_nzc.Goals as goal
 

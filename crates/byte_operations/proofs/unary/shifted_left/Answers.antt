@@ -2,7 +2,6 @@
 use Prim.Native.Nat.{ℕ, ◌*◌, ◌%◌}
 use mathlib.Core.Path.{◌≡◌}
 use native.Mathlib.Omega.{arith}
-use borrow.Author.Rules.{rules}
 use Rattle.arithmetic.proofs.BitLaws.{flag_le}
 use Rattle.byte_operations.specs.Unary.{shifted_left}
 use Rattle.byte_operations.proofs.unary.shifted_left.Goals as goal

@@ -1,6 +1,5 @@
 -- `byte_operations::unary::shifted_right` meets its contract.
 use native.Mathlib.Omega.{arith}
-use borrow.Author.Rules.{rules}
 use Rattle.arithmetic.proofs.BitLaws.{flag_le}
 use Rattle.byte_operations.specs.Unary.{shifted_right}
 use Rattle.byte_operations.proofs.unary.shifted_right.Goals as goal

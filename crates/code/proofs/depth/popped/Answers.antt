@@ -1,6 +1,5 @@
 -- `code::depth::popped` meets its contract.
 use Rattle.code.specs.Depth.{popped}
-use borrow.Author.Rules.{rules}
 use Rattle.code.proofs.depth.popped.Goals as goal
 
 pub returns-then-moves_depth : goal.returns-then-moves_depth

@@ -1,6 +1,5 @@
 -- `code::depth::pushed` meets its contract.
 use Rattle.code.specs.Depth.{pushed}
-use borrow.Author.Rules.{rules}
 use Rattle.code.proofs.depth.pushed.Goals as goal
 
 pub returns-then-moves_depth : goal.returns-then-moves_depth

@@ -3,7 +3,6 @@ use Prim.Native.Nat.{◌-◌}
 use mathlib.Core.Path.{sym, ap, ◌∙◌}
 use native.Mathlib.Omega.{arith}
 use lib.ListN.{take, drop, length-take}
-use borrow.Author.Rules.{rules}
 use Rattle.stm8.proofs.Longer.{found_within}
 use Rattle.image.specs.Image.{version_of}
 use Rattle.code.specs.Set.{decoded_for}

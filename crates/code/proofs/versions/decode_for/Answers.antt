@@ -9,7 +9,6 @@ use Rattle.stm8.specs.declared.Decoded.TheVariants.{Outside}
 use Rattle.code.specs.Set.{decoded_for}
 use Rattle.code.specs.Internal.{left_out}
 use Rattle.code.proofs.Sets.{set_has, decoded_for_lem, not_allowed}
-use borrow.Author.Rules.{rules}
 use Rattle.code.proofs.versions.decode_for.Goals as goal
 
 -- the first byte tells, whatever the map has

@@ -2,7 +2,6 @@
 use mathlib.Core.Path.{ap}
 use mathlib.Core.Bool.{not}
 use borrow.Author.Tests.{eq-eqb, ne_eqb}
-use borrow.Author.Rules.{rules}
 use Rattle.code.proofs.versions.left_out.Goals as goal
 
 pub returns-then-first-eq173 : goal.returns-then-first-eq173

@@ -2,7 +2,6 @@
 use mathlib.Core.Path.{ap, sym, ◌∙◌}
 use mathlib.Core.List.{[]}
 use lib.ListN.{get_or, set}
-use borrow.Author.Rules.{rules}
 use Rattle.code.proofs.Tables.{lengths_cut, lengths_kept}
 use Rattle.code.proofs.versions.lengths_of.Goals as goal
 

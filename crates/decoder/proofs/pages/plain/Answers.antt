@@ -1,6 +1,5 @@
 -- `decoder::pages::plain` meets its contract.
 use native.Mathlib.Omega.{arith}
-use borrow.Author.Rules.{rules}
 use Rattle.numbers.specs.Lists.{Bytes}
 use Rattle.stm8.specs.OpcodeMap.{Plain}
 use Rattle.opcodes.specs.Entries.{on_page}

@@ -1,6 +1,5 @@
 -- `disassembly::instructions::target` meets its contract.
 use native.Mathlib.Nat.{add_assoc}
-use borrow.Author.Rules.{rules}
 use Rattle.disassembly.specs.Text.{target}
 use Rattle.disassembly.proofs.instructions.target.Goals as goal
 

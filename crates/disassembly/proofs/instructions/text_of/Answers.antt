@@ -1,5 +1,4 @@
 -- `disassembly::instructions::text_of` meets its contract: the line that each arm writes is the text.
-use borrow.Author.Rules.{rules}
 use Rattle.notation.proofs.Growing.{◌then◌, nothing}
 use Rattle.disassembly.specs.Text.{text}
 use Rattle.disassembly.proofs.Sizes.{length_cond}

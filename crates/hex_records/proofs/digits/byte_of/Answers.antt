@@ -1,5 +1,4 @@
 -- `hex_records::digits::byte_of` meets its contract.
-use borrow.Author.Rules.{rules}
 use Rattle.hex_records.specs.Digits.{byte_of}
 use Rattle.hex_records.proofs.digits.byte_of.Goals as goal
 

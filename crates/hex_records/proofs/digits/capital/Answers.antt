@@ -1,5 +1,4 @@
 -- `hex_records::digits::capital` meets its contract.
-use borrow.Author.Rules.{rules}
 use borrow.Author.Tests.{lt-ltb, le-ltb, le-leb, lt-leb}
 use Rattle.hex_records.specs.Digits.{capital}
 use Rattle.hex_records.proofs.digits.capital.Goals as goal

@@ -1,7 +1,6 @@
 -- `hex_records::digits::digit_of` meets its contract.
 use Rattle.hex_records.specs.Digits.{digit_of}
 use borrow.Author.Tests.{lt-ltb, le-ltb}
-use borrow.Author.Rules.{rules}
 use Rattle.hex_records.proofs.digits.digit_of.Goals as goal
 
 pub returns-then-n-lt10 : goal.returns-then-n-lt10

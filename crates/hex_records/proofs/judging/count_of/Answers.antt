@@ -1,7 +1,7 @@
 -- `hex_records::judging::count_of` meets its contract.
-use Rattle.hex_records.proofs.Values.{lone_even, lone_odd, pairs_count, value_two, value_last, value_none, value_small, all_more, sum_more}
+use Rattle.hex_records.proofs.Values.{pairs_count}
 use native.Mathlib.Omega.{arith}
-use mathlib.Core.Path.{◌≡◌, refl, sym, ap, ◌∙◌}
+use mathlib.Core.Path.{sym, ◌∙◌}
 use borrow.Author.Rules.{rules}
 use Rattle.hex_records.proofs.judging.count_of.Goals as goal
 

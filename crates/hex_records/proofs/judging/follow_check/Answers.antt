@@ -1,5 +1,5 @@
 -- `hex_records::judging::follow_check` meets its contract.
-use Rattle.hex_records.specs.Judging.{line_bytes, length_in, address_in, type_in, shape_check, open_check, follow_check, form_check, line_check, after}
+use Rattle.hex_records.specs.Judging.{follow_check}
 use borrow.Author.Rules.{rules}
 use Rattle.hex_records.proofs.judging.follow_check.Goals as goal
 

@@ -1,5 +1,5 @@
 -- `hex_records::judging::good_with` meets its contract.
-use borrow.Author.Tests.{lt-ltb, le-ltb, le-leb, lt-leb, eq-eqb, ne_eqb}
+use borrow.Author.Tests.{lt-ltb, le-ltb}
 use Rattle.hex_records.proofs.judging.good_with.Goals as goal
 
 pub returns-then-value-lt256 : goal.returns-then-value-lt256

@@ -1,6 +1,6 @@
 -- `hex_records::judging::judge_digits` meets its contract.
 use mathlib.Core.Path.{◌∙◌}
-use Rattle.hex_records.proofs.Judged.{rest_check, colon_first, no_colon, colon_check}
+use Rattle.hex_records.proofs.Judged.{rest_check}
 use borrow.Author.Rules.{rules}
 use Rattle.hex_records.proofs.judging.judge_digits.Goals as goal
 

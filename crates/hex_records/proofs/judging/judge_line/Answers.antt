@@ -1,6 +1,6 @@
 -- `hex_records::judging::judge_line` meets its contract.
 use borrow.Author.Rules.{part_to_end}
-use mathlib.Core.Path.{◌≡◌, sym, ◌∙◌}
+use mathlib.Core.Path.{sym, ◌∙◌}
 use Rattle.hex_records.proofs.Judged.{colon_first, no_colon, colon_check}
 use borrow.Author.Rules.{rules}
 use Rattle.hex_records.proofs.judging.judge_line.Goals as goal

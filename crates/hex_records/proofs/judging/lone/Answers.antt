@@ -1,8 +1,7 @@
 -- `hex_records::judging::lone` meets its contract.
-use borrow.Author.Tests.{lt-ltb, le-ltb, le-leb, lt-leb, eq-eqb, ne_eqb}
-use Rattle.hex_records.proofs.Values.{lone_even, lone_odd, pairs_count, value_two, value_last, value_none, value_small, all_more, sum_more}
+use Rattle.hex_records.proofs.Values.{lone_even, lone_odd}
 use native.Mathlib.Omega.{arith}
-use mathlib.Core.Path.{◌≡◌, refl, sym, ap, ◌∙◌}
+use mathlib.Core.Path.{sym}
 use borrow.Author.Rules.{rules}
 use Rattle.hex_records.proofs.judging.lone.Goals as goal
 

@@ -1,7 +1,6 @@
 -- `hex_records::judging::shape_check` meets its contract.
-use Rattle.hex_records.specs.Judging.{line_bytes, length_in, address_in, type_in, shape_check, open_check, follow_check, form_check, line_check, after}
-use mathlib.Core.Path.{◌≡◌, refl, sym, ap, ◌∙◌}
-use borrow.Author.Tests.{lt-ltb, le-ltb, le-leb, lt-leb, eq-eqb, ne_eqb}
+use Rattle.hex_records.specs.Judging.{shape_check}
+use borrow.Author.Tests.{eq-eqb, ne_eqb}
 use borrow.Author.Rules.{rules}
 use Rattle.hex_records.proofs.judging.shape_check.Goals as goal
 

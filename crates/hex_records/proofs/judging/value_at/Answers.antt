@@ -1,6 +1,6 @@
 -- `hex_records::judging::value_at` meets its contract.
 use Rattle.hex_records.proofs.Values.{value_two, counted_last, counted_none}
-use mathlib.Core.Path.{◌≡◌, refl, sym, ap, ◌∙◌}
+use mathlib.Core.Path.{sym, ◌∙◌}
 use borrow.Author.Rules.{rules}
 use Rattle.hex_records.proofs.judging.value_at.Goals as goal
 

@@ -1,5 +1,4 @@
 -- `hex_records::reading::address_in` meets its contract.
-use borrow.Author.Rules.{rules}
 use Rattle.numbers.specs.Words.{word_at}
 use Rattle.hex_records.specs.Judging.{address_in}
 use Rattle.hex_records.proofs.reading.address_in.Goals as goal

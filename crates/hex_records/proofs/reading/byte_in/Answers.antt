@@ -1,8 +1,6 @@
 -- `hex_records::reading::byte_in` meets its contract.
-use mathlib.Core.Path.{◌∙◌}
 use native.Mathlib.Omega.{arith}
 use borrow.Author.Rules.{part_to_end}
-use borrow.Author.Rules.{rules}
 use Rattle.hex_records.proofs.WellFormed.{some_character, value_in, bytes_in}
 use Rattle.hex_records.proofs.reading.byte_in.Goals as goal
 

@@ -1,13 +1,12 @@
 -- `hex_records::reading::copy_data` meets its contract. The loop's invariant: the first k bytes of the data are put.
 use Prim.Native.Nat.{◌+◌, ◌-◌, ◌<◌, ◌≤◌}
-use mathlib.Core.Path.{◌≡◌, refl, ap, ◌∙◌}
+use mathlib.Core.Path.{refl, ap, ◌∙◌}
 use native.Mathlib.Omega.{arith}
-use lib.ListN.{length, take}
+use lib.ListN.{length}
 use lib.Seq.{take_all, length-take-le}
-use borrow.Author.Rules.{rules}
-use Rattle.hex_records.specs.Judging.{line_bytes, length_in, data_in, form_check}
+use Rattle.hex_records.specs.Judging.{line_bytes, length_in, data_in}
 use Rattle.hex_records.specs.Internal.{put_at}
-use Rattle.hex_records.proofs.Puts.{Put, put_begun, put_one, put_turn}
+use Rattle.hex_records.proofs.Puts.{put_begun, put_one, put_turn}
 use Rattle.hex_records.proofs.WellFormed.{data_count, data_at}
 use Rattle.hex_records.proofs.reading.copy_data.Goals as goal
 

@@ -1,5 +1,4 @@
 -- `hex_records::reading::data_length` meets its contract.
-use borrow.Author.Rules.{rules}
 use Rattle.hex_records.specs.Judging.{length_in}
 use Rattle.hex_records.proofs.reading.data_length.Goals as goal
 

@@ -1,6 +1,5 @@
 -- `hex_records::reading::place_after` meets its contract.
 use mathlib.Core.Path.{sym, ◌∙◌}
-use borrow.Author.Rules.{rules}
 use borrow.Author.Tests.{eq-eqb, ne_eqb}
 use Rattle.hex_records.specs.Judging.{type_in, after}
 use Rattle.hex_records.proofs.reading.place_after.Goals as goal

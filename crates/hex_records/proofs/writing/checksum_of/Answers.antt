@@ -1,5 +1,5 @@
 -- `hex_records::writing::checksum_of` meets its contract.
-use Rattle.hex_records.proofs.Puts.{put_byte, sum_next, sum_end, sum_none, check_is, byte_0, byte_1, byte_2, byte_3, byte_data, byte_check}
+use Rattle.hex_records.proofs.Puts.{check_is}
 use borrow.Author.Rules.{rules}
 use Rattle.hex_records.proofs.writing.checksum_of.Goals as goal
 

@@ -1,7 +1,6 @@
 -- `hex_records::writing::put_byte` meets its contract.
-use mathlib.Core.Path.{◌≡◌, refl, sym, ap, ◌∙◌}
-use Rattle.hex_records.proofs.Puts.{put_byte, sum_next, sum_end, sum_none, check_is, byte_0, byte_1, byte_2, byte_3, byte_data, byte_check}
-use lib.ListN.{length, get_or, take, drop, length-set}
+use Rattle.hex_records.proofs.Puts.{put_byte}
+use lib.ListN.{length-set}
 use native.Mathlib.Omega.{arith}
 use borrow.Author.Rules.{rules}
 use Rattle.hex_records.proofs.writing.put_byte.Goals as goal

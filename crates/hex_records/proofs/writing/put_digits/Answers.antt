@@ -1,9 +1,9 @@
 -- `hex_records::writing::put_digits` meets its contract.
 use Rattle.hex_records.specs.Records.{record_bytes}
 use Rattle.hex_records.proofs.RecordLaws.{record_length}
-use Rattle.hex_records.proofs.Puts.{Put, put_begun, put_turn, spelled_more, spelled_length}
-use mathlib.Core.Path.{◌≡◌, refl, sym, ap, ◌∙◌}
-use Prim.Native.Nat.{ℕ, ◌-◌, ◌+◌, ◌*◌, ◌%◌, ◌≤◌, ◌<◌}
+use Rattle.hex_records.proofs.Puts.{put_begun, put_turn, spelled_more, spelled_length}
+use mathlib.Core.Path.{◌≡◌, ap, ◌∙◌}
+use Prim.Native.Nat.{ℕ, ◌-◌, ◌+◌, ◌*◌}
 use lib.ListN.{length, take}
 use lib.Seq.{take_all, length-take-le}
 use mathlib.Core.List.{List}

@@ -1,10 +1,10 @@
 -- `hex_records::writing::put_line` meets its contract.
 use Rattle.hex_records.specs.Records.{record_bytes}
 use Rattle.hex_records.proofs.RecordLaws.{record_length}
-use Rattle.hex_records.proofs.Puts.{put_byte, sum_next, sum_end, sum_none, check_is, byte_0, byte_1, byte_2, byte_3, byte_data, byte_check, row_length, row_whole}
-use mathlib.Core.Path.{◌≡◌, refl, sym, ap, ◌∙◌}
-use Prim.Native.Nat.{◌-◌, ◌+◌, ◌*◌, ◌%◌, ◌≤◌, ◌<◌}
-use lib.ListN.{length, get_or, take, drop, length-set}
+use Rattle.hex_records.proofs.Puts.{row_length, row_whole}
+use mathlib.Core.Path.{refl}
+use Prim.Native.Nat.{◌-◌, ◌+◌}
+use lib.ListN.{length-set}
 use native.Mathlib.Omega.{arith}
 use borrow.Author.Rules.{rules}
 use Rattle.hex_records.proofs.writing.put_line.Goals as goal

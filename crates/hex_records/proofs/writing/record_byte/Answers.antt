@@ -1,7 +1,7 @@
 -- `hex_records::writing::record_byte` meets its contract.
 use native.Mathlib.Omega.{arith}
-use mathlib.Core.Path.{◌≡◌, refl, sym, ap, ◌∙◌}
-use Rattle.hex_records.proofs.Puts.{put_byte, sum_next, sum_end, sum_none, check_is, byte_0, byte_1, byte_2, byte_3, byte_data, byte_check}
+use mathlib.Core.Path.{◌∙◌}
+use Rattle.hex_records.proofs.Puts.{byte_0, byte_1, byte_2, byte_3, byte_data, byte_check}
 use borrow.Author.Rules.{rules}
 use Rattle.hex_records.proofs.writing.record_byte.Goals as goal
 

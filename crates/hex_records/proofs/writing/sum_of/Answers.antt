@@ -1,9 +1,6 @@
 -- `hex_records::writing::sum_of` meets its contract.
-use Rattle.numbers.specs.Folds.{total}
-use Rattle.hex_records.proofs.Puts.{put_byte, sum_next, sum_end, sum_none, check_is, byte_0, byte_1, byte_2, byte_3, byte_data, byte_check}
-use mathlib.Core.Path.{◌≡◌, refl, sym, ap, ◌∙◌}
-use Prim.Native.Nat.{◌-◌, ◌+◌, ◌*◌, ◌%◌, ◌≤◌, ◌<◌}
-use lib.ListN.{length, get_or, take, drop, length-set}
+use Rattle.hex_records.proofs.Puts.{sum_next, sum_end, sum_none}
+use Prim.Native.Nat.{◌-◌}
 use borrow.Author.Rules.{rules}
 use native.Mathlib.Omega.{arith}
 use Rattle.hex_records.proofs.writing.sum_of.Goals as goal

@@ -1,5 +1,4 @@
 -- `image::access::granted` meets its contract: the test that led to each return picks the case.
-use Rattle.std.proofs.Common.{rules}
 use Rattle.image.specs.Access.{granted}
 use Rattle.image.proofs.access.granted.Goals as goal
 

@@ -1,5 +1,5 @@
 -- `image::access::wholly` meets its contract: the test that led to each return picks the case.
-use Rattle.std.proofs.Common.{rules, le-leb}
+use Rattle.std.proofs.Common.{le-leb}
 use borrow.Author.Tests.{lt-leb}
 use Rattle.image.specs.Access.{wholly}
 use Rattle.image.proofs.access.wholly.Goals as goal

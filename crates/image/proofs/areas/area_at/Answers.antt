@@ -1,5 +1,4 @@
 -- `image::areas::area_at` meets its contract.
-use Rattle.std.proofs.Common.{rules}
 use Rattle.image.proofs.areas.area_at.Goals as goal
 
 pub returns : goal.returns

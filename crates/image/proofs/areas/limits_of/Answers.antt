@@ -1,6 +1,5 @@
 -- `image::areas::limits_of` meets its contract.
 use Rattle.image.specs.Image.{limits_of}
-use Rattle.std.proofs.Common.{rules}
 use Rattle.image.proofs.areas.limits_of.Goals as goal
 
 pub returns : goal.returns

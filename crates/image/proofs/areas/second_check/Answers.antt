@@ -1,5 +1,5 @@
 -- `image::areas::second_check` meets its contract: the test that led to each return picks the case.
-use Rattle.std.proofs.Common.{rules, le-ltb, lt-ltb}
+use Rattle.std.proofs.Common.{le-ltb, lt-ltb}
 use Rattle.numbers.specs.Folds.{first_in}
 use Rattle.numbers.proofs.Folding.{first_assoc, first_none}
 use Rattle.image.specs.Validation.{second_check}

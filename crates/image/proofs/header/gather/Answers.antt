@@ -1,5 +1,5 @@
 -- `image::header::gather` meets its contract.
-use Rattle.std.proofs.Common.{rules, le-ltb, lt-ltb}
+use Rattle.std.proofs.Common.{le-ltb, lt-ltb}
 use Rattle.image.proofs.header.gather.Goals as goal
 
 pub returns-then-k-lt32 : goal.returns-then-k-lt32

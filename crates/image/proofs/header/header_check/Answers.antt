@@ -1,5 +1,5 @@
 -- `image::header::header_check` meets its contract.
-use Rattle.std.proofs.Common.{not, ap, ◌∙◌, rules}
+use Rattle.std.proofs.Common.{not, ap, ◌∙◌}
 use Rattle.numbers.specs.Checks.{unless}
 use Rattle.numbers.specs.Folds.{first_in}
 use Rattle.numbers.proofs.Folding.{first_assoc, first_none}

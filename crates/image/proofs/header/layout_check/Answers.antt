@@ -1,5 +1,5 @@
 -- `image::header::layout_check` meets its contract.
-use Rattle.std.proofs.Common.{sym, ap, ◌∙◌, rules}
+use Rattle.std.proofs.Common.{sym, ap, ◌∙◌}
 use Rattle.image.specs.Image.{size_of, lengths_of, layout_of}
 use Rattle.image.specs.declared.lengths.LengthState.{LengthState}
 use Rattle.image.proofs.Measuring.{lengths_count}

@@ -1,5 +1,5 @@
 -- `image::header::mark_check` meets its contract.
-use Rattle.std.proofs.Common.{◌≤◌, length, sym, arith, length-take-le, rules, lt-ltb}
+use Rattle.std.proofs.Common.{◌≤◌, length, sym, arith, length-take-le, lt-ltb}
 use Rattle.numbers.specs.Checks.{first, under}
 use Rattle.numbers.specs.Folds.{first_in}
 use Rattle.numbers.proofs.Checking.{first_pass, under_pass}

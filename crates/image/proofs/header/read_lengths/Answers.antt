@@ -1,8 +1,8 @@
 -- `image::header::read_lengths` meets its contract. The loop's invariant: the state is that after the lengths before k, and the routines before k
 -- begin as gathered.
-use Rattle.std.proofs.Common.{◌≡◌, ◌+◌, ◌-◌, ◌*◌, ◌<◌, ◌≤◌, length, take, refl, ap, ◌∙◌, arith, take_all, rules}
+use Rattle.std.proofs.Common.{◌≡◌, ◌+◌, ◌-◌, ◌<◌, take, refl, ap, ◌∙◌, arith, take_all}
 use Rattle.image.specs.Image.{count_of, lengths_of}
-use Rattle.image.specs.Lengths.{after_all, BeginsTo16}
+use Rattle.image.specs.Lengths.{after_all}
 use Rattle.image.proofs.Measuring.{lengths_count}
 use Rattle.image.proofs.Feeding.{cut_whole, state_next, state_sum, gathered_size, gathered}
 use Rattle.image.proofs.header.read_lengths.Goals as goal

@@ -1,5 +1,5 @@
 -- `image::header::version_check` meets its contract.
-use Rattle.std.proofs.Common.{ap, ◌∙◌, rules}
+use Rattle.std.proofs.Common.{ap, ◌∙◌}
 use Rattle.numbers.specs.Checks.{unless}
 use Rattle.image.specs.Validation.{known, version_check}
 use Rattle.image.proofs.header.version_check.Goals as goal

@@ -1,5 +1,5 @@
 -- `image::lengths::begin_at` meets its contract.
-use Rattle.std.proofs.Common.{rules, le-ltb, lt-ltb}
+use Rattle.std.proofs.Common.{le-ltb, lt-ltb}
 use Rattle.image.proofs.lengths.begin_at.Goals as goal
 
 pub returns-then-k-lt32 : goal.returns-then-k-lt32

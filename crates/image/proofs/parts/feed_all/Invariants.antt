@@ -1,7 +1,6 @@
 -- `image::parts::feed_all` meets its contract. The loop's invariant: the state is that after the first k lengths.
-use Rattle.std.proofs.Common.{◌≡◌, ◌+◌, ◌-◌, ◌*◌, ◌<◌, ◌≤◌, length, take, sym, refl, ap, ◌∙◌, arith, take_all, rules}
+use Rattle.std.proofs.Common.{◌≡◌, ◌-◌, ◌*◌, ◌≤◌, length, take}
 use Rattle.image.specs.Lengths.{after_all}
-use Rattle.image.proofs.Feeding.{cut_whole, fed_more}
 use Rattle.image.proofs.parts.feed_all.Given as goal
 
 abbrev pub invariant-loop-k : goal.invariant-loop-k

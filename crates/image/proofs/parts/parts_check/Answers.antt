@@ -1,5 +1,5 @@
 -- `image::parts::parts_check` meets its contract.
-use Rattle.std.proofs.Common.{sym, refl, ap, ◌∙◌, rules}
+use Rattle.std.proofs.Common.{sym, refl, ap, ◌∙◌}
 use Rattle.image.specs.Validation.{layout_check}
 use Rattle.image.specs.declared.lengths.LengthState.{LengthState}
 use Rattle.image.proofs.Feeding.{sum_all}

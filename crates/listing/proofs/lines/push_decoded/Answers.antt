@@ -1,7 +1,6 @@
 -- `listing::lines::push_decoded` meets its contract.
 use mathlib.Core.Path.{◌≡◌, ap, sym, ◌∙◌}
 use native.Mathlib.Omega.{arith}
-use borrow.Author.Rules.{rules}
 use Rattle.code.specs.Code.{decoded_at, instruction_in}
 use Rattle.code.proofs.Parts.{code_cut}
 use Rattle.listing.proofs.Appending.{wrote_none}

@@ -1,5 +1,4 @@
 -- `listing::lines::push_front` meets its contract.
-use borrow.Author.Rules.{rules}
 use native.Mathlib.Omega.{arith}
 use Rattle.listing.proofs.Appending.{◌then◌}
 use Rattle.listing.proofs.Sizes.{decimal_size}

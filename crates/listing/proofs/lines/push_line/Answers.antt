@@ -1,6 +1,5 @@
 -- `listing::lines::push_line` meets its contract.
 use Prim.Native.Nat.{◌+◌, ◌-◌}
-use borrow.Author.Rules.{rules}
 use borrow.Author.Tests.{eq-eqb}
 use native.Mathlib.Omega.{arith}
 use Rattle.code.specs.Code.{instruction_in}

@@ -1,17 +1,11 @@
 -- `listing::lines::push_starts` meets its contract. The loop's invariant: the lines of the code bytes before the offset are written, and there is
 -- room for 35 bytes for each one left.
-use Prim.Native.Nat.{ℕ, ◌+◌, ◌-◌, ◌*◌, ◌≤◌}
-use mathlib.Core.Path.{◌≡◌}
-use mathlib.Core.List.{List, flat_map}
-use native.Mathlib.Omega.{arith}
+use Prim.Native.Nat.{◌+◌, ◌-◌, ◌*◌, ◌≤◌}
+use mathlib.Core.List.{flat_map}
 use lib.ListN.{length}
 use Rattle.numbers.specs.Computed.{counting}
-use Rattle.image.specs.Image.{code_at, size_of}
-use Rattle.image.specs.Rules.{ImageRules}
 use Rattle.listing.specs.Listing.{line_at}
 use Rattle.listing.specs.Internal.{Wrote}
-use Rattle.listing.proofs.Appending.{◌then◌, wrote_none, lines_next}
-use Rattle.listing.proofs.Sizes.{line_size}
 use Rattle.listing.proofs.lines.push_starts.Given as goal
 
 abbrev pub invariant-loop-offset : goal.invariant-loop-offset

@@ -1,6 +1,5 @@
 -- `listing::writing::push_bytes` meets its contract.
-use mathlib.Core.Path.{refl, ◌∙◌}
-use borrow.Author.Rules.{rules}
+use mathlib.Core.Path.{refl}
 use Rattle.listing.proofs.Appending.{wrote_part}
 use Rattle.listing.proofs.writing.push_bytes.Goals as goal
 

@@ -1,6 +1,5 @@
 -- `listing::writing::push_decimal` meets its contract.
 use Prim.Native.Nat.{◌/◌}
-use borrow.Author.Rules.{rules}
 use native.Mathlib.Omega.{arith}
 use Rattle.listing.specs.Decimal.{decimal}
 use Rattle.listing.proofs.Appending.{◌then◌}

@@ -1,5 +1,4 @@
 -- `listing::writing::push_hex` meets its contract.
-use borrow.Author.Rules.{rules}
 use Rattle.listing.proofs.Appending.{◌then◌}
 use Rattle.listing.proofs.writing.push_hex.Goals as goal
 

@@ -1,5 +1,4 @@
 -- `listing::writing::push_leading` meets its contract.
-use borrow.Author.Rules.{rules}
 use borrow.Author.Tests.{eq-eqb, ne_eqb}
 use Rattle.listing.specs.Decimal.{leading}
 use Rattle.listing.proofs.Appending.{wrote_none}

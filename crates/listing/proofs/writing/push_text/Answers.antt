@@ -2,7 +2,6 @@
 use Prim.Native.Nat.{ℕ, ◌+◌, ◌-◌, ◌≤◌}
 use mathlib.Core.List.{List}
 use lib.ListN.{length, take, drop, length-drop}
-use borrow.Author.Rules.{rules}
 use borrow.Author.Rules.{part_to_end}
 use native.Mathlib.Omega.{arith}
 use Rattle.disassembly.specs.Text.{text}

@@ -1,18 +1,10 @@
 -- `machine::running::run_valid` meets its contract. The loop's invariant: the steps made and then a run with the steps left are the whole run, and so are
 -- the cycles counted, at most four a step.
 use Prim.Native.Nat.{◌+◌, ◌-◌, ◌*◌, ◌≤◌}
-use mathlib.Core.Path.{◌≡◌, refl, sym, ◌∙◌, ap}
-use mathlib.Core.Logic.{⊎_elim}
-use native.Mathlib.Nat.{zero-add}
-use native.Mathlib.Omega.{arith}
+use mathlib.Core.Path.{◌≡◌}
 use lib.ListN.{length}
-use borrow.Author.Rules.{rules}
-use Rattle.machine.specs.Step.{step_refusal}
 use Rattle.machine.specs.Run.{more_steps, ran}
-use Rattle.machine.specs.Cycles.{cycles_at, run_cycles}
-use Rattle.machine.proofs.StepLaws.{same_refusal}
-use Rattle.machine.proofs.RunLaws.{after_none, out_finished, out_spent, run_on, run_finished, run_trapped, run_refused, ends}
-use Rattle.machine.proofs.CycleLaws.{at_most, none_left, cycles_on, cycles_finished, cycles_trapped, cycles_refused}
+use Rattle.machine.specs.Cycles.{run_cycles}
 use Rattle.machine.proofs.running.run_valid.Given as goal
 
 abbrev pub invariant-loop-left : goal.invariant-loop-left

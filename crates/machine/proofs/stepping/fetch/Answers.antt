@@ -1,7 +1,6 @@
 -- `machine::stepping::fetch` meets its contract: the layout tells where the image's code begins.
 use Prim.Native.Nat.{◌-◌}
 use mathlib.Core.Path.{◌∙◌, ap}
-use borrow.Author.Rules.{rules}
 use Rattle.image.specs.declared.Layout.{Layout}
 use Rattle.image.specs.Image.{layout_of}
 use Rattle.code.specs.Code.{decoded_at}

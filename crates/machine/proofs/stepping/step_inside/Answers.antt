@@ -1,8 +1,6 @@
 -- `machine::stepping::step_inside` meets its contract: a trap of decoding, or the instruction.
-use Prim.Native.Nat.{◌+◌, ◌≤◌, ◌<◌}
 use mathlib.Core.Path.{sym, ap, ◌∙◌}
 use native.Mathlib.Omega.{arith}
-use borrow.Author.Rules.{rules}
 use Rattle.code.proofs.Starts.{found_short}
 use Rattle.machine.specs.Step.{decoded_step}
 use Rattle.machine.proofs.StepLaws.{found, undecoded, next_small}

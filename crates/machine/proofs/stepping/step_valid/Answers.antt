@@ -2,7 +2,6 @@
 use Prim.Native.Nat.{ℕ}
 use mathlib.Core.Path.{◌≡◌, sym, ◌∙◌}
 use borrow.Author.Tests.{eq-eqb, ne_eqb}
-use borrow.Author.Rules.{rules}
 use Rattle.numbers.specs.Checks.{first}
 use Rattle.numbers.proofs.Checking.{first_zero}
 use Rattle.storage.specs.Storing.{sp_trap}

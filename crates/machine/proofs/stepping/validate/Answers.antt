@@ -1,6 +1,5 @@
 -- `machine::stepping::validate` meets its contract: 17 comes first.
 use borrow.Author.Tests.{eq-eqb, ne_eqb}
-use borrow.Author.Rules.{rules}
 use Rattle.numbers.specs.Checks.{first, differ}
 use Rattle.image.specs.Validation.{validated}
 use Rattle.machine.specs.Step.{step_refusal}

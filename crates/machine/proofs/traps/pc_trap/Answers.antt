@@ -1,5 +1,4 @@
 -- `machine::traps::pc_trap` meets its contract.
-use borrow.Author.Rules.{rules}
 use Rattle.machine.proofs.traps.pc_trap.Goals as goal
 
 pub returns : goal.returns

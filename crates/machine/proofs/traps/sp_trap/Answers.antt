@@ -1,5 +1,4 @@
 -- `machine::traps::sp_trap` meets its contract.
-use borrow.Author.Rules.{rules}
 use Rattle.storage.specs.Storing.{sp_trap}
 use Rattle.machine.proofs.traps.sp_trap.Goals as goal
 
