@@ -22,15 +22,15 @@ VERSION = sed -n 's/^.define GATE_LIBRARY_VERSION "\(.*\)"$$/\1/p' $(HEADER)
 .PHONY: all gate install install-lib install-bin install-gate uninstall test
 
 all:
-	rt staticlib gate_c
-	rt check gatecheck
+	host/rattle library
+	host/rattle program gatecheck
 	$(MAKE) gate
 
 target/staticlib/libgate_c.a:
-	rt staticlib gate_c
+	host/rattle library
 
 target/bin/gatecheck:
-	rt check gatecheck
+	host/rattle program gatecheck
 
 # Cargo knows whether anything has changed.
 gate: $(GATE_LIB_DIR)/libgate_c.a

@@ -1,4 +1,4 @@
-//! Links `libgate_c.a`, which `rt staticlib gate_c` writes: the one of the folder that `GATE_LIB_DIR` names; else the repository's own;
+//! Links `libgate_c.a`, which `host/rattle library` writes: the one of the folder that `GATE_LIB_DIR` names; else the repository's own;
 //! else the one that is installed, if pkg-config knows of this version.
 //! Checking and documenting need no archive, so where there is none this only warns; linking then fails.
 

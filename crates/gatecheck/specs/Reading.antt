@@ -6,4 +6,4 @@ use Rattle.gatecheck.specs.declared.Input.TheVariants.{Bytes, Failed}
 -- the bytes that were read lie within the buffer
 abbrev pub ReadInto : Input → ℕ → Type 0
 ReadInto (Bytes n) size = n ≤ size
-ReadInto Failed size = Unit {0}
+ReadInto (Failed _) size = Unit {0}

@@ -19,7 +19,7 @@ const MARKS: usize = 4096;
 #[derive(Clone, Copy)]
 enum Input {
     Bytes(usize),
-    Failed,
+    Failed(io::Error),
 }
 
 // One read: how many bytes came, none at the input's end.
@@ -28,7 +28,7 @@ fn read_some(input: &mut impl Read, buffer: &mut [u8]) -> Input
 {
     match input.read(buffer) {
         Ok(count) => Input::Bytes(count),
-        Err(_) => Input::Failed,
+        Err(error) => Input::Failed(error),
     }
 }
 
@@ -40,7 +40,7 @@ fn read_input(input: &mut impl Read, buffer: &mut [u8]) -> Input
     while n < buffer.len() {
         let more = read_some(input, &mut buffer[n..]);
         let Input::Bytes(count) = more else {
-            return Input::Failed;
+            return more;
         };
         if count == 0 {
             return Input::Bytes(n);
@@ -61,11 +61,16 @@ fn print_listing(out: &mut impl Write, input: &[u8]) -> io::Result<()> {
     out.write_all(&buffer[..n])
 }
 
-fn main(rt: HostRuntime) -> io::Result<()> {
+// What failed is said on standard error, and nothing more can be done where that fails too. The exit status is 0 all the same: whoever calls goes by
+// the first line of what is printed.
+fn main(rt: HostRuntime) {
     let mut buffer = [0u8; INPUT];
-    let input = read_input(&mut rt.stdin(), &mut buffer);
-    let Input::Bytes(n) = input else {
-        return Err(io::Error::other("standard input failed"));
+    let said = match read_input(&mut rt.stdin(), &mut buffer) {
+        Input::Failed(error) => eprintln!(rt; "standard input: {error}"),
+        Input::Bytes(n) => match print_listing(&mut rt.stdout(), &buffer[..n]) {
+            Ok(()) => Ok(()),
+            Err(error) => eprintln!(rt; "standard output: {error}"),
+        },
     };
-    print_listing(&mut rt.stdout(), &buffer[..n])
+    let _ = said;
 }

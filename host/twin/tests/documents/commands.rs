@@ -11,12 +11,12 @@ use std::{env, fs};
 /// Commands that are not run as printed: the line, where * stands for its rest; what is run in its place, with that rest, if
 /// anything is; and why.
 const INSTEAD: [(&str, Option<&str>, &str); 11] = [
-    (".ci/run", None, "proves everything from nothing"),
+    (".ci/run", None, "proves every crate"),
     ("host/test", None, "runs this test"),
     ("bench/run", None, "measures for half a minute, and needs uCsim"),
     ("make", None, "proves for minutes, by rt"),
-    ("rt check gatecheck && *", Some(""), "proves for minutes; the program is there"),
-    ("rt check machine_cases", None, "proves for minutes, and `rt ci` does it"),
+    ("host/rattle program gatecheck && *", Some(""), "proves for minutes; the program is there"),
+    ("host/rattle program machine_cases", None, "proves for minutes, and `rt ci` does it"),
     ("target/bin/machine_cases *", None, "`rt ci` holds the program to the same file"),
     (
         "cc loader.c *",
@@ -79,8 +79,8 @@ impl Trial {
         };
         let (archive, program) = (libraries.join("libgate_c.a"), programs.join("gatecheck"));
         let gatecheck = program.is_file();
-        assert!(archive.is_file(), "there is no {}: run `rt staticlib gate_c` first", archive.display());
-        assert!(gatecheck || given.is_some(), "there is no {}: run `rt check gatecheck` first", program.display());
+        assert!(archive.is_file(), "there is no {}: run `host/rattle library` first", archive.display());
+        assert!(gatecheck || given.is_some(), "there is no {}: run `host/rattle program gatecheck` first", program.display());
         let clone = env::temp_dir().join(format!("gate-documents-{}", process::id()));
         tree.copy(&clone);
         copy_built(&archive, &clone.join("target/staticlib"));

@@ -5,10 +5,11 @@ use crate::tree::{below, fits, folder, Document, Tree};
 use std::collections::BTreeSet;
 
 /// Paths that no clone has, and why a document names them.
-const ELSEWHERE: [(&str, &str); 3] = [
-    ("target/staticlib/libgate_c.a", "`rt staticlib gate_c` writes it"),
-    ("target/bin/gatecheck", "`rt check gatecheck` builds it"),
+const ELSEWHERE: [(&str, &str); 4] = [
+    ("target/staticlib/libgate_c.a", "`host/rattle library` writes it"),
+    ("target/bin/gatecheck", "`host/rattle program gatecheck` writes it"),
     ("checker/specs/Sweep.antt", "the document tells that it is gone"),
+    ("Allowed.antt", "the document tells that it was new once; it is gone"),
 ];
 
 pub struct Paths<'a> {
