@@ -1,3 +1,4 @@
+pub mod Allowed
 pub mod Sets
 pub mod Tables
 pub mod Parts

@@ -1,32 +1,27 @@
--- An accepted image that only jumps ahead finishes within main's turn: in one run, and in runs whose budgets add up to it.
+-- An image that meets the rules and only jumps ahead finishes within main's turn, from its start.
 use Prim.Native.Nat.{ℕ, zero, suc, ◌<◌, ◌≤◌}
-use mathlib.Core.Path.{◌≡◌, refl, sym, ◌∙◌}
+use mathlib.Core.Path.{◌≡◌, refl, ◌∙◌}
 use mathlib.Core.Bool.{false}
 use mathlib.Core.Logic.{inl}
-use mathlib.Core.List.{List, [], ◌∷◌}
+use mathlib.Core.List.{List}
 use native.Mathlib.Omega.{arith}
 use lib.ListN.{length}
-use Rattle.numbers.specs.Folds.{total}
 use Rattle.numbers.specs.Lists.{Bytes}
 use Rattle.image.specs.declared.Limits.{Limits}
 use Rattle.image.specs.Image.{count_of, main_of}
 use Rattle.code.specs.Code.{Start, begins}
 use Rattle.rules.specs.Rules.{Rules}
-use Rattle.rules.specs.declared.Verdict.TheVariants.{Accepted}
-use Rattle.acceptance.proofs.Accepting.{accepted_exactly}
-use Rattle.execution.specs.declared.Registers.{Registers}
 use Rattle.machine.specs.Run.{ran}
 use Rattle.machine.proofs.RunLaws.{finished_at_once}
-use Rattle.machine.proofs.RunParts.{run_in_parts}
-use Rattle.gate.specs.Start.{begun, cleared, started}
+use Rattle.gate.specs.Start.{begun, cleared}
 use Rattle.gate.specs.History.{Given, Point, empty_book, point_after}
 use Rattle.gate.specs.GoodPoint.{GoodPoint}
 use Rattle.gate.proofs.CheckedCode.{CheckedCode}
 use Rattle.gate.proofs.CheckedByRules.{rules_checked}
 use Rattle.gate.proofs.AnyStep.{valid, any_step, makes_step}
-use Rattle.gate.proofs.Starting.{accepted_start, main_listed, start_tracked}
+use Rattle.gate.proofs.Starting.{main_listed, start_tracked}
 use Rattle.turns.specs.Turn.{some_jumps_back, turn_of}
-use Rattle.finishing.specs.Finishing.{FinishedWithin, in_pieces}
+use Rattle.finishing.specs.Finishing.{FinishedWithin}
 use Rattle.finishing.proofs.Left.{left_in, left_whole, left_behind}
 use Rattle.finishing.proofs.Remaining.{nobody, Remains, finished, running}
 use Rattle.finishing.proofs.EachStep.{step_remains}
@@ -83,36 +78,3 @@ module _ (image : List ℕ) (bytes : Bytes image) (limits : Limits) (depth need 
       let t = start_tracked image limits depth need code memory size a x y cc in
       finishes budget (turn_of image (main_of image)) enough p (t.kept.size ∙ size) t.good
       (running (main_listed image limits depth need code memory size) begins refl nobody (omega (arith, left_whole image (main_of image))))
-
--- An accepted image in which no jump goes to its own or a lower address, started with any A, X, Y, CC and memory: a run with a budget of at least main's
--- turn has finished, after at most main's turn of steps.
-pub finishes_within : (image : List ℕ) → Bytes image → (limits : Limits) (marks memory : List ℕ) (a x y cc need count : ℕ) →
-    (started image limits marks memory a x y cc).started.verdict ≡ Accepted need count → some_jumps_back image ≡ false →
-    (budget : ℕ) → turn_of image (main_of image) ≤ budget →
-    let s = started image limits marks memory a x y cc in
-    FinishedWithin (turn_of image (main_of image)) (ran budget image limits s.started.registers s.memory).0
-finishes_within image bytes limits marks memory a x y cc need count accept ahead budget enough =
-    let s = accepted_start image limits marks memory a x y cc need count accept in
-    let h = (accepted_exactly image limits marks need count).0 s.accepted in
-    rw (s.registers, s.cleared_memory)
-    (from_rules image bytes limits h.depth h.needs h.rules ahead memory s.size a x y cc budget enough)
-
--- Runs one after another are one run with the sum of their budgets.
-pub in_pieces_lem : (budgets image : List ℕ) (limits : Limits) (regs : Registers) (memory : List ℕ) →
-    in_pieces budgets image limits regs memory ≡ ran (total budgets) image limits regs memory
-unfolding total
-in_pieces_lem [] image limits regs memory = refl
-in_pieces_lem (budget ∷ budgets) image limits regs memory =
-    let first = ran budget image limits regs memory in
-    rw (in_pieces_lem budgets image limits first.0.registers first.1) (sym (run_in_parts image limits (total budgets) budget regs memory))
-
--- So a turn that is over is run in pieces: where the budgets add up to it, it has finished.
-pub finishes_in_pieces : (image : List ℕ) → Bytes image → (limits : Limits) (marks memory : List ℕ) (a x y cc need count : ℕ) →
-    (started image limits marks memory a x y cc).started.verdict ≡ Accepted need count → some_jumps_back image ≡ false →
-    (budgets : List ℕ) → turn_of image (main_of image) ≤ total budgets →
-    let s = started image limits marks memory a x y cc in
-    FinishedWithin (turn_of image (main_of image)) (in_pieces budgets image limits s.started.registers s.memory).0
-finishes_in_pieces image bytes limits marks memory a x y cc need count accept ahead budgets enough =
-    let s = started image limits marks memory a x y cc in
-    rw (in_pieces_lem budgets image limits s.started.registers s.memory)
-    (finishes_within image bytes limits marks memory a x y cc need count accept ahead (total budgets) enough)

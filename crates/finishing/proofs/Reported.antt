@@ -18,7 +18,7 @@ use Rattle.gate.specs.Start.{started}
 use Rattle.turns.specs.Turn.{some_jumps_back, turn_of, answer_of, by_verdict, turned}
 use Rattle.turns.specs.declared.TurnAnswer.TheVariants.{NoTurn, Over, Within}
 use Rattle.finishing.specs.Finishing.{FinishedWithin, in_pieces}
-use Rattle.finishing.proofs.Finishing.{finishes_within, finishes_in_pieces}
+use Rattle.finishing.proofs.Started.{finishes_within, finishes_in_pieces}
 
 -- the answer by what it goes by, each as a variable
 within_told : (back over : Bool) (turn t : ℕ) → cond back NoTurn (cond over Over (Within turn)) ≡ Within t → (back ≡ false) × (turn ≡ t)

@@ -43,10 +43,10 @@ module _ (image : List ℕ) (bytes : Bytes image) (limits : Limits) (marks : Lis
       record { saves = saves; reads = reads.0; says = reads.1; good = (p.book, good) }
 
   -- a good record's claims
-  from_record : {memory record_bytes_lem after : List ℕ} {budget : ℕ} {r : Resumed} → length memory ≡ 32768 →
-      (g : Good image limits left (state_in record_bytes_lem).registers memory) →
-      (r, after) ≡ ran_on image limits memory (state_in record_bytes_lem) budget r.answer → FromRecord image limits marks memory record_bytes_lem budget r after
-  from_record {memory} {record_bytes_lem} size g is =
+  from_record : {memory stored after : List ℕ} {budget : ℕ} {r : Resumed} → length memory ≡ 32768 →
+      (g : Good image limits left (state_in stored).registers memory) →
+      (r, after) ≡ ran_on image limits memory (state_in stored) budget r.answer → FromRecord image limits marks memory stored budget r after
+  from_record {memory} {stored} size g is =
       record {
         need = need;
         count = count;
@@ -54,23 +54,23 @@ module _ (image : List ℕ) (bytes : Bytes image) (limits : Limits) (marks : Lis
         book = g.0;
         good = g.1;
         holds =
-            good_guarantee image bytes limits marks need count accept memory size (point_at (state_in record_bytes_lem).registers memory g.0) g.1
+            good_guarantee image bytes limits marks need count accept memory size (point_at (state_in stored).registers memory g.0) g.1
             (unchanged_none limits need memory);
         run_is = ap (λ (x : Resumed × List ℕ). let s : State = record { registers = x.0.registers; memory = x.1 } in s) is;
       }
 
   -- where a resumed run came to
-  came_good : (record_bytes_lem : List ℕ) (budget : ℕ) {memory after : List ℕ} {r : Resumed} → Bytes record_bytes_lem → length memory ≡ 32768 →
-      (g : Good image limits left (state_in record_bytes_lem).registers memory) →
-      (r, after) ≡ ran_on image limits memory (state_in record_bytes_lem) budget r.answer → Resumable image limits left r.registers r.steps after
-  came_good record_bytes_lem budget {memory} {r = r} small size g is =
+  came_good : (stored : List ℕ) (budget : ℕ) {memory after : List ℕ} {r : Resumed} → Bytes stored → length memory ≡ 32768 →
+      (g : Good image limits left (state_in stored).registers memory) →
+      (r, after) ≡ ran_on image limits memory (state_in stored) budget r.answer → Resumable image limits left r.registers r.steps after
+  came_good stored budget {memory} {r = r} small size g is =
       let h = accepted_code image bytes limits marks need count accept in
-      let state = state_in record_bytes_lem in
+      let state = state_in stored in
       let g0 : Given = record { image = image; limits = limits } in
       let p = point_at state.registers memory g.0 in
       let allowed = allowance budget state in
       let end = good_run image limits (depth_in left) h.needs h.code allowed p size g.1 in
-      let most = total_most image limits memory state budget (state_fits record_bytes_lem small).1 in
+      let most = total_most image limits memory state budget (state_fits stored small).1 in
       let there = good_resumable (ran_point g0 allowed p) end.0 (state.steps + (ran allowed image limits state.registers memory).0.steps) most in
       let registers = ap (λ (x : Resumed × List ℕ). x.0.registers) is in
       let steps = ap (λ (x : Resumed × List ℕ). x.0.steps) is in
@@ -90,10 +90,10 @@ reached_resumable image bytes limits marks memory a x y cc need count accept cal
     (history calls (point_started (started image limits marks memory a x y cc)))
     (every_good image bytes limits marks memory a x y cc need count accept calls allowed)
 
-module _ (image : List ℕ) (bytes : Bytes image) (limits : Limits) (marks memory record_bytes_lem : List ℕ) (budget : ℕ) where
+module _ (image : List ℕ) (bytes : Bytes image) (limits : Limits) (marks memory stored : List ℕ) (budget : ℕ) where
   -- From any good record, with any other bytes in memory, the guarantee for accepted routines holds.
-  pub resumed_guarantee : {r : Resumed} {marks' after : List ℕ} → Resumes image limits marks memory record_bytes_lem budget r marks' after → RunsOn r.answer →
-      FromRecord image limits marks memory record_bytes_lem budget r after
+  pub resumed_guarantee : {r : Resumed} {marks' after : List ℕ} → Resumes image limits marks memory stored budget r marks' after → RunsOn r.answer →
+      FromRecord image limits marks memory stored budget r after
   resumed_guarantee (no_memory other) on = absurd on
   resumed_guarantee (refused size check) on = absurd on
   resumed_guarantee (accepted size check (unreadable is some)) on = absurd on
@@ -103,7 +103,7 @@ module _ (image : List ℕ) (bytes : Bytes image) (limits : Limits) (marks memor
       from_record image bytes limits marks need count verdict size (rw (← ap (λ (x : Verdict × List ℕ). x.1) check) at good) is
 
   -- What is resumed can be saved and resumed again.
-  pub resumed_again : Bytes record_bytes_lem → {r : Resumed} {marks' after : List ℕ} → Resumes image limits marks memory record_bytes_lem budget r marks' after →
+  pub resumed_again : Bytes stored → {r : Resumed} {marks' after : List ℕ} → Resumes image limits marks memory stored budget r marks' after →
       RunsOn r.answer → Resumable image limits marks' r.registers r.steps after
   resumed_again small (no_memory other) on = absurd on
   resumed_again small (refused size check) on = absurd on
@@ -112,4 +112,4 @@ module _ (image : List ℕ) (bytes : Bytes image) (limits : Limits) (marks memor
   resumed_again small (accepted {need = need} {count = count} size check (resumed read good ends is)) on =
       let verdict = ap (λ (x : Verdict × List ℕ). x.0) check in
       let left_is = ap (λ (x : Verdict × List ℕ). x.1) check in
-      rw left_is at (came_good image bytes limits marks need count verdict record_bytes_lem budget small size (rw (← left_is) at good) is)
+      rw left_is at (came_good image bytes limits marks need count verdict stored budget small size (rw (← left_is) at good) is)

@@ -9,7 +9,6 @@ const ELSEWHERE: [(&str, &str); 4] = [
     ("target/staticlib/libgate_c.a", "`host/rattle library` writes it"),
     ("target/bin/gatecheck", "`host/rattle program gatecheck` writes it"),
     ("checker/specs/Sweep.antt", "the document tells that it is gone"),
-    ("Allowed.antt", "the document tells that it was new once; it is gone"),
 ];
 
 pub struct Paths<'a> {
