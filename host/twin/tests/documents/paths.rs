@@ -5,7 +5,7 @@ use crate::tree::{below, fits, folder, Document, Tree};
 use std::collections::BTreeSet;
 
 /// Paths that no clone has, and why a document names them.
-const ELSEWHERE: [(&str, &str); 4] = [
+const ELSEWHERE: [(&str, &str); 3] = [
     ("target/staticlib/libgate_c.a", "`host/rattle library` writes it"),
     ("target/bin/gatecheck", "`host/rattle program gatecheck` writes it"),
     ("checker/specs/Sweep.antt", "the document tells that it is gone"),
