@@ -37,11 +37,12 @@ const NO_COMMANDS: [(&str, &str); 3] =
     [("NAME: KIND |", "the form of a case"), ("NEG A with 80: step |", "a case"), ("check    VERDICT", "the forms of answers")];
 
 /// Languages of fenced blocks that are neither commands nor programs, and what they are.
-const LANGUAGES: [(&str, &str); 4] = [
+const LANGUAGES: [(&str, &str); 5] = [
     ("toml", "lines for another package's Cargo.toml"),
     ("slu", "bytes, which tests/format.rs reads"),
     ("verdict", "their listing, which it reads too"),
     ("cases", "cases, which it reads too"),
+    ("antt", "words of theorems"),
 ];
 
 /// The endings of a paragraph that says: the next block is what the commands or the program before it print, and how they end.
