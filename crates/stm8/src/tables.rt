@@ -1,5 +1,5 @@
 // The lengths of the op-codes on their three pages, sixteen to a row by the op-code's high digit, as the manual's map is laid out: 0
-// outside the set, else pre-code, op-code and operand bytes. (The formatter would put one entry on a line.)
+// outside the set, else pre-code, op-code and operand bytes. (The comment that ends a row keeps the formatter from joining rows.)
 ghost use Rattle.std.specs.Prelude.{◌≡◌};
 ghost use Rattle.stm8.specs.Decoding.{map_lengths};
 
