@@ -4,4 +4,5 @@ pub mod Comparing
 pub mod Computing
 pub mod Folding
 pub mod Numbering
+pub mod Shifting
 pub mod WordLaws

@@ -6,16 +6,13 @@ ghost use Rattle.numbers.specs.Bits.{bit as bit_of, flag as flag_of};
 pub fn flag(holds: bool) -> u8
     ensures { result ≡ flag_of holds }
 {
-    if holds { 1 } else { 0 }
+    u8::from(holds)
 }
 
 // Bit `position` of a byte; a byte has no bit above 7, and there it is 0.
+#[tactic(auto, using(crate::proofs::Shifting::shifted_out), unfolding(crate::specs::Bits::bit))]
 pub fn bit(position: u8, value: u8) -> u8
     ensures { result ≡ bit_of position value }
 {
-    if position < 8 {
-        (value >> position) % 2
-    } else {
-        0
-    }
+    value.checked_shr(position.into()).unwrap_or(0) % 2
 }

@@ -3,31 +3,34 @@ ghost use Rattle.std.specs.Prelude.{◌≡◌, get_or, set};
 ghost use Rattle.numbers.specs.Words.{word as word_of, high as high_of, low as low_of, word_at};
 
 // The word of a high and a low byte.
+#[tactic(auto, unfolding(crate::specs::Words::word))]
 pub fn word(high: u8, low: u8) -> u16
     ensures { result ≡ word_of high low }
 {
-    (high as u16) * 256 + (low as u16)
+    u16::from_be_bytes([high, low])
 }
 
 // A word's high byte.
+#[tactic(auto, unfolding(crate::specs::Words::high))]
 pub fn high(w: u16) -> u8
     ensures { result ≡ high_of w }
 {
-    (w / 256) as u8
+    w.to_be_bytes()[0]
 }
 
 // A word's low byte.
+#[tactic(auto, unfolding(crate::specs::Words::low))]
 pub fn low(w: u16) -> u8
     ensures { result ≡ low_of w }
 {
-    (w % 256) as u8
+    w.to_be_bytes()[1]
 }
 
 // The byte at an index, 0 past the end.
 pub fn byte_at(bytes: &[u8], at: usize) -> u8
     ensures { result ≡ get_or bytes.now at 0 }
 {
-    if at < bytes.len() { bytes[at] } else { 0 }
+    bytes.get(at).copied().unwrap_or(0)
 }
 
 // The word at an index, high byte first; a byte past the end counts as 0.
@@ -45,6 +48,7 @@ pub fn word_at(bytes: &[u8], at: usize) -> u16
 pub fn put_byte(bytes: &mut [u8], at: usize, byte: u8)
     ensures { bytes.new ≡ set bytes.old at byte }
 {
+    // A test and a write: what `get_mut` wrote to, a proof knows by its length alone.
     if at < bytes.len() {
         bytes[at] = byte;
     }
