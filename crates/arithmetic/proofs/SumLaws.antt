@@ -1,5 +1,6 @@
 -- Powers of two, remainders, and the code's way to a carry and a difference.
-use Rattle.std.proofs.Common.{◌≡◌, ℕ, ◌+◌, ◌-◌, ◌*◌, ◌%◌, ◌^◌, ◌<◌, ◌≤◌, cond, ltb, sym, ◌∙◌, lt_of_lt_of_le, mod-lt, mod-eq_of_lt, one-mul, add-one, arith, pow_pos, pow_mono, le-ltb, lt-ltb}
+use Rattle.std.proofs.Common.{◌≡◌, ℕ, ◌+◌, ◌-◌, ◌*◌, ◌%◌, ◌^◌, ◌<◌, ◌≤◌, Bool, not, cond, ltb, refl, ◌∙◌, lt_of_lt_of_le, mod-eq_of_lt, one-mul, add-one, arith, pow_mono, le-ltb, lt-ltb}
+use mathlib.Core.Bool.{beq, xor}
 use native.Mathlib.Nat.{two-pow-succ, mod-eq-sub-mod}
 use lib.Pow.{pow-lt}
 use Rattle.arithmetic.proofs.Orders.{by_order}
@@ -11,23 +12,23 @@ twice n = rw add-one (two-pow-succ n)
 pub less_once : {p n : ℕ} → p ≤ n → n < p + p → n % p ≡ n - p
 less_once {p} {n} above below = mod-eq-sub-mod above ∙ mod-eq_of_lt (omega arith)
 
--- 1 shifted to the place above bit n, and the bits below that place
-module _ (n : ℕ) (small : n < 16) where
-  pub limit : 1 * 2 ^ (n + 1) % 2 ^ 32 ≡ 2 ^ (n + 1)
-  limit = rw (one-mul (2 ^ (n + 1))) (mod-eq_of_lt (pow-lt {j = 32} (omega arith)))
+-- 1 shifted by n places
+pub shifted : (n : ℕ) → n < 32 → 1 * 2 ^ n % 2 ^ 32 ≡ 2 ^ n
+shifted n small = rw (one-mul (2 ^ n)) (mod-eq_of_lt (pow-lt {j = 32} small))
 
-  pub limit_positive : 0 < 1 * 2 ^ (n + 1) % 2 ^ 32
-  limit_positive = rw limit (pow_pos (n + 1))
-
-  pub below_limit : (a : ℕ) → a % (1 * 2 ^ (n + 1) % 2 ^ 32) < 65536
-  below_limit a = rw limit (lt_of_lt_of_le (mod-lt a (pow_pos (n + 1))) (pow_mono {i = n + 1} {j = 16} (omega arith)))
-
--- what m + x brings back to a, modulo p, is the difference, to which p is added where it borrows
-pub wrapped : (p a m x r : ℕ) → a < p → m < p → x ≤ 1 → r < p → (r + (m + x)) % p ≡ a → r ≡ cond (ltb (a % p) (m % p + x)) (a + p) a - (m + x)
-wrapped p a m x r ha hm hx hr e =
+-- where p is lent to a before m + x is taken, the rest modulo p is the difference
+pub lent : (p a m x : ℕ) → a < p → m < p → x ≤ 1 → (p + a - m - x) % p ≡ cond (ltb (a % p) (m % p + x)) (a + p) a - (m + x)
+lent p a m x ha hm hx =
     rw (mod-eq_of_lt ha, mod-eq_of_lt hm)
-    (by_order (r + (m + x)) p
-    (λ h. let s : r + (m + x) ≡ a = sym (mod-eq_of_lt h) ∙ e in rw (le-ltb a (m + x) (omega arith)) (omega arith))
-    (λ h.
-    let s : r + (m + x) - p ≡ a = sym (less_once h (omega arith)) ∙ e in
-    rw (lt-ltb a (m + x) (omega arith)) (omega arith)))
+    (by_order a (m + x)
+    (λ h. rw (lt-ltb a (m + x) h) (mod-eq_of_lt {n = p + a - m - x} (omega arith) ∙ (omega arith)))
+    (λ h. rw (le-ltb a (m + x) h) (less_once {n = p + a - m - x} (omega arith) (omega arith) ∙ (omega arith))))
+
+-- 1 is a number of any width
+pub one : (w : ℕ) → 1 ≤ w → 1 % 2 ^ w ≡ 1
+one w wide = mod-eq_of_lt (lt_of_lt_of_le (omega arith) (pow_mono wide))
+
+-- the code's way to V: one of two carries alone
+pub differ : (a b : Bool) → not (beq a b) ≡ xor a b
+unfolding xor
+differ a b = refl

@@ -3,6 +3,7 @@ ghost use Rattle.std.specs.Prelude.{◌≡◌};
 ghost use Rattle.arithmetic.specs.Flags.{flag_v, flag_n, flag_z, flag_c, with_v, with_h, with_n, with_z, with_c, with_nz};
 
 use crate::bits::{is_set, with_bit};
+use crate::width::Unsigned;
 
 // V of CC.
 pub fn overflow(cc: u8) -> bool
@@ -53,23 +54,12 @@ pub fn with_c(c: bool, cc: u8) -> u8
     with_bit(0, c, cc)
 }
 
-// CC with N and Z put in.
-fn with_n_and_z(n: bool, z: bool, cc: u8) -> u8
-    ensures { result ≡ with_n n (with_z z cc) }
+// CC with N and Z of a result.
+#[tactic(auto, unfolding(numbers::specs::Bits::bit, crate::specs::Flags::with_nz))]
+pub fn with_nz<T: Unsigned>(value: T, cc: u8) -> u8
+    ensures { result ≡ with_nz T.BITS (T.value value) cc }
 {
-    with_bit(2, n, with_bit(1, z, cc))
-}
-
-// CC with N and Z of a byte.
-pub fn with_nz_of_byte(value: u8, cc: u8) -> u8
-    ensures { result ≡ with_nz 8 value cc }
-{
-    with_n_and_z(is_set(7, value), value == 0, cc)
-}
-
-// CC with N and Z of a word.
-pub fn with_nz_of_word(value: u16, cc: u8) -> u8
-    ensures { result ≡ with_nz 16 value cc }
-{
-    with_n_and_z(value / 32768 % 2 == 1, value == 0, cc)
+    let value = value.wide();
+    let negative = (value >> (T::BITS - 1)) % 2 == 1;
+    with_bit(2, negative, with_bit(1, value == 0, cc))
 }

@@ -4,3 +4,4 @@
 pub mod bits;
 pub mod flags;
 pub mod sums;
+pub mod width;

@@ -1,7 +1,0 @@
--- `arithmetic::sums::after_byte_decrement` meets its contract.
-use Rattle.arithmetic.specs.Sums.{after_decrement}
-use Rattle.arithmetic.proofs.sums.after_byte_decrement.Goals as goal
-
-pub returns : goal.returns
-unfolding after_decrement
-returns c = cc

@@ -1,8 +1,0 @@
--- `arithmetic::sums::word_sum` meets its contract.
-use Rattle.std.proofs.Common.{arith}
-use Rattle.arithmetic.specs.Sums.{sum}
-use Rattle.arithmetic.proofs.sums.word_sum.Goals as goal
-
-pub returns : goal.returns
-unfolding sum
-returns c = omega arith
