@@ -2,6 +2,7 @@
 ghost use Rattle.std.specs.Prelude.{◌≡◌};
 ghost use Rattle.arithmetic.specs.Flags.{flag_v, flag_n, flag_z, flag_c, with_v, with_h, with_n, with_z, with_c, with_nz};
 
+use crate::Flagged;
 use crate::bits::{is_set, with_bit};
 use crate::width::Unsigned;
 
@@ -62,4 +63,14 @@ pub fn with_nz<T: Unsigned>(value: T, cc: u8) -> u8
     let value = value.wide();
     let negative = (value >> (T::BITS - 1)) % 2 == 1;
     with_bit(2, negative, with_bit(1, value == 0, cc))
+}
+
+// A result that affects N and Z alone.
+pub fn result_nz<T: Unsigned>(value: T, cc: u8) -> Flagged<T>
+    ensures { result ≡ record { value = value; cc = with_nz T.BITS (T.value value) cc } }
+{
+    Flagged {
+        value,
+        cc: with_nz(value, cc),
+    }
 }

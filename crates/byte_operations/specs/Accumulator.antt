@@ -5,21 +5,21 @@ use Rattle.stm8.specs.declared.AluOp.{AluOp}
 use Rattle.stm8.specs.declared.AluOp.TheVariants.{Adc, Add, And, Bcp, Cp, Ld, Or, Sbc, Sub, Xor}
 use Rattle.arithmetic.specs.Flags.{flag_c, with_h, with_nz}
 use Rattle.arithmetic.specs.Sums.{sum, carry_out, difference, after_sum, after_difference}
-use Rattle.byte_operations.specs.declared.ByteResult.{ByteResult}
+use Rattle.arithmetic.specs.declared.Flagged.{Flagged}
 
 -- A + src + c: V - H - N Z C, with H the carry out of bit 3
-unfoldable pub added : ℕ → ℕ → Bool → ℕ → ByteResult
+unfoldable pub added : ℕ → ℕ → Bool → ℕ → Flagged ℕ
 added a m c cc = record { value = sum 8 a m c; cc = with_h (carry_out 3 a m c) (after_sum 8 a m c cc) }
 
 -- A - src - c: V - - - N Z C
-unfoldable pub subtracted : ℕ → ℕ → Bool → ℕ → ByteResult
+unfoldable pub subtracted : ℕ → ℕ → Bool → ℕ → Flagged ℕ
 subtracted a m c cc = record { value = difference 8 a m c; cc = after_difference 8 a m c cc }
 
 -- a value: - - - - N Z -
-unfoldable pub result_nz : ℕ → ℕ → ByteResult
+unfoldable pub result_nz : ℕ → ℕ → Flagged ℕ
 result_nz r cc = record { value = r; cc = with_nz 8 r cc }
 
-unfoldable pub alu_result : AluOp → ℕ → ℕ → ℕ → ByteResult
+unfoldable pub alu_result : AluOp → ℕ → ℕ → ℕ → Flagged ℕ
 -- A + src + C
 alu_result Adc a m cc = added a m (flag_c cc) cc
 -- A + src

@@ -6,22 +6,22 @@ use Rattle.stm8.specs.declared.ModifyOp.TheVariants.{Clr, Cpl, Dec, Inc, Neg, Rl
 use Rattle.arithmetic.specs.Bits.{is_set}
 use Rattle.arithmetic.specs.Flags.{flag_c, with_v, with_n, with_z, with_c, with_nz}
 use Rattle.arithmetic.specs.Sums.{sum, difference, after_increment, after_decrement}
-use Rattle.byte_operations.specs.declared.ByteResult.{ByteResult}
+use Rattle.arithmetic.specs.declared.Flagged.{Flagged}
 use Rattle.byte_operations.specs.Accumulator.{result_nz}
 
 -- a value and C: - - - - N Z C
-unfoldable pub result_nzc : ℕ → Bool → ℕ → ByteResult
+unfoldable pub result_nzc : ℕ → Bool → ℕ → Flagged ℕ
 result_nzc r c cc = record { value = r; cc = with_c c (with_nz 8 r cc) }
 
 -- one place to the left: a bit enters at 0, and C is bit 7
-unfoldable pub shifted_left : ℕ → Bool → ℕ → ByteResult
+unfoldable pub shifted_left : ℕ → Bool → ℕ → Flagged ℕ
 shifted_left m b cc = result_nzc (m * 2 % 256 + flag b) (is_set 7 m) cc
 
 -- one place to the right: a bit enters at 7, and C is bit 0
-unfoldable pub shifted_right : ℕ → Bool → ℕ → ByteResult
+unfoldable pub shifted_right : ℕ → Bool → ℕ → Flagged ℕ
 shifted_right m b cc = result_nzc (flag b * 128 + m / 2) (is_set 0 m) cc
 
-unfoldable pub modify_result : ModifyOp → ℕ → ℕ → ByteResult
+unfoldable pub modify_result : ModifyOp → ℕ → ℕ → Flagged ℕ
 -- 00: - - - - 0 1 -
 modify_result Clr m cc = record { value = 0; cc = with_n false (with_z true cc) }
 -- FF - dst: - - - - N Z 1

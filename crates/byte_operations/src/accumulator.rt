@@ -1,60 +1,53 @@
 // The operations on A with an operand: A and CC after each.
 ghost use Rattle.std.specs.Prelude.{◌≡◌};
-ghost use Rattle.byte_operations.specs.Accumulator.{added as added_of, subtracted as subtracted_of, result_nz, alu_result};
+ghost use Rattle.byte_operations.specs.Accumulator.{added as added_of, subtracted as subtracted_of, alu_result};
 
-use crate::ByteResult;
-use arithmetic::{flags, sums};
+use arithmetic::Flagged;
+use arithmetic::flags::{carry, result_nz, with_h, with_nz};
+use arithmetic::sums::{after_difference, after_sum, difference, half_carry, sum};
 use stm8::AluOp;
 
 // a + m + c.
-fn added(a: u8, m: u8, c: bool, cc: u8) -> ByteResult
+#[tactic(auto, unfolding(crate::specs::Accumulator::added))]
+fn added(a: u8, m: u8, c: bool, cc: u8) -> Flagged<u8>
     ensures { result ≡ added_of a m c cc }
 {
-    let h = sums::byte_half_carry(a, m, c);
-    ByteResult {
-        value: sums::byte_sum(a, m, c),
-        cc: flags::with_h(h, sums::after_byte_sum(a, m, c, cc)),
+    Flagged {
+        value: sum(a, m, c),
+        cc: with_h(half_carry(a, m, c), after_sum(a, m, c, cc)),
     }
 }
 
 // a - m - c.
-pub(crate) fn subtracted(a: u8, m: u8, c: bool, cc: u8) -> ByteResult
+#[tactic(auto, unfolding(crate::specs::Accumulator::subtracted))]
+pub(crate) fn subtracted(a: u8, m: u8, c: bool, cc: u8) -> Flagged<u8>
     ensures { result ≡ subtracted_of a m c cc }
 {
-    ByteResult {
-        value: sums::byte_difference(a, m, c),
-        cc: sums::after_byte_difference(a, m, c, cc),
+    Flagged {
+        value: difference(a, m, c),
+        cc: after_difference(a, m, c, cc),
     }
 }
 
-// A value that affects N and Z alone.
-pub(crate) fn result_nz(value: u8, cc: u8) -> ByteResult
-    ensures { result ≡ result_nz value cc }
-{
-    ByteResult {
-        value,
-        cc: flags::with_nz_of_byte(value, cc),
-    }
-}
-
-pub fn alu(o: AluOp, a: u8, m: u8, cc: u8) -> ByteResult
+#[tactic(auto, unfolding(crate::specs::Accumulator::result_nz, crate::specs::Accumulator::alu_result))]
+pub fn alu(o: AluOp, a: u8, m: u8, cc: u8) -> Flagged<u8>
     ensures { result ≡ alu_result o a m cc }
 {
     match o {
-        AluOp::Adc => added(a, m, flags::carry(cc), cc),
+        AluOp::Adc => added(a, m, carry(cc), cc),
         AluOp::Add => added(a, m, false, cc),
         AluOp::And => result_nz(a & m, cc),
-        AluOp::Bcp => ByteResult {
+        AluOp::Bcp => Flagged {
             value: a,
-            cc: flags::with_nz_of_byte(a & m, cc),
+            cc: with_nz(a & m, cc),
         },
-        AluOp::Cp => ByteResult {
+        AluOp::Cp => Flagged {
             value: a,
-            cc: sums::after_byte_difference(a, m, false, cc),
+            cc: after_difference(a, m, false, cc),
         },
         AluOp::Ld => result_nz(m, cc),
         AluOp::Or => result_nz(a | m, cc),
-        AluOp::Sbc => subtracted(a, m, flags::carry(cc), cc),
+        AluOp::Sbc => subtracted(a, m, carry(cc), cc),
         AluOp::Sub => subtracted(a, m, false, cc),
         AluOp::Xor => result_nz(a ^ m, cc),
     }

@@ -19,6 +19,7 @@ pub fn flag(o: FlagOp, cc: u8) -> u8
 }
 
 // Whether a condition holds.
+#[tactic(auto, using(arithmetic::proofs::SumLaws::differ))]
 pub fn holds(o: Condition, cc: u8) -> bool
     ensures { result ≡ holds_of o cc }
 {

@@ -10,10 +10,3 @@ pub use accumulator::alu;
 pub use bits::{bit, bit_holds, bit_tested};
 pub use flags::{flag, holds};
 pub use unary::modify;
-
-// A byte that an operation gives, and CC after it.
-#[derive(Clone, Copy)]
-pub struct ByteResult {
-    pub value: u8,
-    pub cc: u8,
-}

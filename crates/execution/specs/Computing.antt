@@ -11,14 +11,13 @@ use Rattle.stm8.specs.declared.Operand.{Operand}
 use Rattle.stm8.specs.declared.Operand.TheVariants.{Accumulator, Immediate, ImmediateWord, Short, Long, Indexed, Sp}
 use Rattle.stm8.specs.declared.Instruction.{Instruction}
 use Rattle.stm8.specs.declared.Instruction.TheVariants as I
+use Rattle.arithmetic.specs.declared.Flagged.{Flagged}
 use Rattle.arithmetic.specs.Flags.{with_nz}
-use Rattle.byte_operations.specs.declared.ByteResult.{ByteResult}
 use Rattle.byte_operations.specs.Accumulator.{alu_result}
 use Rattle.byte_operations.specs.Unary.{modify_result}
 use Rattle.byte_operations.specs.BitOperations.{bit_result, bit_holds, bit_tested}
 use Rattle.byte_operations.specs.FlagOperations.{flag_result}
 use Rattle.byte_operations.specs.Conditions.{holds}
-use Rattle.index_operations.specs.declared.WordResult.{WordResult}
 use Rattle.index_operations.specs.Words.{ldw_result, word_alu_result, word_modify_result, mul_result}
 use Rattle.storage.specs.Reading.{read_byte, read_word}
 use Rattle.execution.specs.Operands.{index_of, byte_of, word_of}
@@ -29,10 +28,10 @@ use Rattle.execution.specs.declared.Computed.{Computed}
 abbrev pub unchanged : Registers → Computed
 unchanged regs = record { a = regs.a; x = regs.x; y = regs.y; cc = regs.cc; stored = 0; taken = false }
 
-abbrev pub with_a : Registers → ByteResult → Computed
+abbrev pub with_a : Registers → Flagged ℕ → Computed
 with_a regs r = record { a = r.value; x = regs.x; y = regs.y; cc = r.cc; stored = 0; taken = false }
 
-abbrev pub with_index : Registers → Register → WordResult → Computed
+abbrev pub with_index : Registers → Register → Flagged ℕ → Computed
 with_index regs X r = record { a = regs.a; x = r.value; y = regs.y; cc = r.cc; stored = 0; taken = false }
 with_index regs Y r = record { a = regs.a; x = regs.x; y = r.value; cc = r.cc; stored = 0; taken = false }
 
@@ -43,7 +42,7 @@ abbrev pub testing : Registers → Bool → ℕ → Computed
 testing regs taken cc = record { a = regs.a; x = regs.x; y = regs.y; cc = cc; stored = 0; taken = taken }
 
 -- a result goes to A, or to the place that the effect names
-abbrev pub into_operand : Registers → Operand → ByteResult → Computed
+abbrev pub into_operand : Registers → Operand → Flagged ℕ → Computed
 into_operand regs Accumulator r = with_a regs r
 into_operand regs (Immediate n) r = storing regs r.value r.cc
 into_operand regs (ImmediateWord w) r = storing regs r.value r.cc

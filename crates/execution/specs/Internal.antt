@@ -3,8 +3,7 @@ use Rattle.std.specs.Prelude.{ℕ, cond, List, eqb}
 use Rattle.stm8.specs.Effects.{effect}
 use Rattle.stm8.specs.declared.Effect.{Effect}
 use Rattle.stm8.specs.declared.Instruction.{Instruction}
-use Rattle.byte_operations.specs.declared.ByteResult.{ByteResult}
-use Rattle.index_operations.specs.declared.WordResult.{WordResult}
+use Rattle.arithmetic.specs.declared.Flagged.{Flagged}
 use Rattle.image.specs.declared.Limits.{Limits}
 use Rattle.execution.specs.Computing.{computed}
 use Rattle.execution.specs.Performing.{Result, result, effect_trap, made_by}
@@ -14,10 +13,10 @@ use Rattle.execution.specs.declared.StepAnswer.TheVariants.{Made, Trap}
 use Rattle.execution.specs.declared.TimedStep.{TimedStep}
 
 -- a byte, and a word, that touch no flag
-abbrev pub byte_keeping_flags : Registers → ℕ → ByteResult
+abbrev pub byte_keeping_flags : Registers → ℕ → Flagged ℕ
 byte_keeping_flags regs value = record { value = value; cc = regs.cc }
 
-abbrev pub word_keeping_flags : Registers → ℕ → WordResult
+abbrev pub word_keeping_flags : Registers → ℕ → Flagged ℕ
 word_keeping_flags regs value = record { value = value; cc = regs.cc }
 
 -- a step with its cycles

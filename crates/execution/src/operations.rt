@@ -14,9 +14,8 @@ ghost use Rattle.execution.specs.Computing.{with_a, with_index, storing as stori
 ghost use Rattle.execution.specs.Internal.{byte_keeping_flags, word_keeping_flags};
 
 use crate::{Computed, Registers};
-use arithmetic::flags::{with_nz_of_byte, with_nz_of_word};
-use byte_operations::ByteResult;
-use index_operations::WordResult;
+use arithmetic::Flagged;
+use arithmetic::flags::with_nz;
 use numbers::words::{high, low, word};
 use stm8::{
     AluOp, BitOp, BitTest, Condition, FlagOp, Half, ModifyOp, Operand, Register, WordAluOp,
@@ -63,13 +62,13 @@ impl Registers {
     pub(crate) fn store_a(self) -> Computed
         ensures { result ≡ storing_of self self.a (with_nz 8 self.a self.cc) }
     {
-        self.storing(self.a as u16, with_nz_of_byte(self.a, self.cc))
+        self.storing(self.a as u16, with_nz(self.a, self.cc))
     }
 
     pub(crate) fn load_half(self, r: Register, h: Half) -> Computed
         ensures { result ≡ with_a self (byte_keeping_flags self (half_of h (index_of self r))) }
     {
-        self.with_a(ByteResult {
+        self.with_a(Flagged {
             value: half_of(h, self.index(r)),
             cc: self.cc,
         })
@@ -98,7 +97,7 @@ impl Registers {
         ensures { result ≡ storing_of self (index_of self r) (with_nz 16 (index_of self r) self.cc) }
     {
         let w = self.index(r);
-        self.storing(w, with_nz_of_word(w, self.cc))
+        self.storing(w, with_nz(w, self.cc))
     }
 
     pub(crate) fn copy_word(self, r: Register) -> Computed
@@ -137,7 +136,7 @@ impl Registers {
     {
         self.into_operand(
             x,
-            ByteResult {
+            Flagged {
                 value: m,
                 cc: self.cc,
             },

@@ -5,8 +5,7 @@ ghost use Rattle.execution.specs.Computing.{storing as storing_of, testing as te
 ghost use Rattle.execution.specs.Internal.{word_keeping_flags};
 
 use crate::{Computed, Registers};
-use byte_operations::ByteResult;
-use index_operations::WordResult;
+use arithmetic::Flagged;
 use stm8::{Operand, Register};
 
 impl Registers {
@@ -23,7 +22,7 @@ impl Registers {
         }
     }
 
-    pub(crate) fn with_a(self, res: ByteResult) -> Computed
+    pub(crate) fn with_a(self, res: Flagged<u8>) -> Computed
         ensures { result ≡ with_a self res }
     {
         Computed {
@@ -36,7 +35,7 @@ impl Registers {
         }
     }
 
-    pub(crate) fn with_index(self, r: Register, res: WordResult) -> Computed
+    pub(crate) fn with_index(self, r: Register, res: Flagged<u16>) -> Computed
         ensures { result ≡ with_index self r res }
     {
         match r {
@@ -63,7 +62,7 @@ impl Registers {
     pub(crate) fn with_word(self, r: Register, value: u16) -> Computed
         ensures { result ≡ with_index self r (word_keeping_flags self value) }
     {
-        self.with_index(r, WordResult { value, cc: self.cc })
+        self.with_index(r, Flagged { value, cc: self.cc })
     }
 
     pub(crate) fn exchanged(self) -> Computed
@@ -113,7 +112,7 @@ impl Registers {
     }
 
     // Into A, or to the place that the effect names.
-    pub(crate) fn into_operand(self, x: Operand, res: ByteResult) -> Computed
+    pub(crate) fn into_operand(self, x: Operand, res: Flagged<u8>) -> Computed
         ensures { result ≡ into_operand self x res }
     {
         match x {

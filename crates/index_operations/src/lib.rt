@@ -4,69 +4,65 @@
 ghost use Rattle.std.specs.Prelude.{◌≡◌};
 ghost use Rattle.index_operations.specs.Words.{ldw_result, word_alu_result, word_modify_result, mul_result};
 
-use arithmetic::{flags, sums};
+use arithmetic::Flagged;
+use arithmetic::flags::{result_nz, with_c, with_h};
+use arithmetic::sums::{
+    after_decrement, after_difference, after_increment, after_sum, difference, half_borrow,
+    half_carry, sum,
+};
 use numbers::words::low;
 use stm8::{WordAluOp, WordModifyOp};
 
-// A word that an operation gives, and CC after it.
-#[derive(Clone, Copy)]
-pub struct WordResult {
-    pub value: u16,
-    pub cc: u8,
-}
-
-pub fn ldw(m: u16, cc: u8) -> WordResult
+#[tactic(auto, unfolding(crate::specs::Words::ldw_result))]
+pub fn ldw(m: u16, cc: u8) -> Flagged<u16>
     ensures { result ≡ ldw_result m cc }
 {
-    WordResult {
-        value: m,
-        cc: flags::with_nz_of_word(m, cc),
-    }
+    result_nz(m, cc)
 }
 
-pub fn word_alu(o: WordAluOp, x: u16, m: u16, cc: u8) -> WordResult
+#[tactic(auto, unfolding(crate::specs::Words::word_alu_result))]
+pub fn word_alu(o: WordAluOp, x: u16, m: u16, cc: u8) -> Flagged<u16>
     ensures { result ≡ word_alu_result o x m cc }
 {
     match o {
-        WordAluOp::Addw => WordResult {
-            value: sums::word_sum(x, m),
-            cc: flags::with_h(sums::word_half_carry(x, m), sums::after_word_sum(x, m, cc)),
+        WordAluOp::Addw => Flagged {
+            value: sum(x, m, false),
+            cc: with_h(half_carry(x, m, false), after_sum(x, m, false, cc)),
         },
-        WordAluOp::Cpw => WordResult {
+        WordAluOp::Cpw => Flagged {
             value: x,
-            cc: sums::after_word_difference(x, m, cc),
+            cc: after_difference(x, m, false, cc),
         },
-        WordAluOp::Subw => WordResult {
-            value: sums::word_difference(x, m),
-            cc: flags::with_h(
-                sums::word_half_borrow(x, m),
-                sums::after_word_difference(x, m, cc),
-            ),
+        WordAluOp::Subw => Flagged {
+            value: difference(x, m, false),
+            cc: with_h(half_borrow(x, m, false), after_difference(x, m, false, cc)),
         },
     }
 }
 
-pub fn word_modify(o: WordModifyOp, x: u16, cc: u8) -> WordResult
+#[tactic(auto, unfolding(crate::specs::Words::ldw_result, crate::specs::Words::word_modify_result, arithmetic::specs::Flags::with_nz, numbers::specs::Bits::bit))]
+pub fn word_modify(o: WordModifyOp, x: u16, cc: u8) -> Flagged<u16>
     ensures { result ≡ word_modify_result o x cc }
 {
     match o {
         WordModifyOp::Clrw => ldw(0, cc),
-        WordModifyOp::Decw => WordResult {
-            value: sums::word_difference(x, 1),
-            cc: sums::after_word_decrement(x, cc),
+        WordModifyOp::Decw => Flagged {
+            value: difference(x, 1, false),
+            cc: after_decrement(x, cc),
         },
-        WordModifyOp::Incw => WordResult {
-            value: sums::word_sum(x, 1),
-            cc: sums::after_word_increment(x, cc),
+        WordModifyOp::Incw => Flagged {
+            value: sum(x, 1, false),
+            cc: after_increment(x, cc),
         },
     }
 }
 
-pub fn mul(x: u16, a: u8, cc: u8) -> WordResult
+#[tactic(auto, unfolding(crate::specs::Words::mul_result))]
+pub fn mul(x: u16, a: u8, cc: u8) -> Flagged<u16>
     ensures { result ≡ mul_result x a cc }
 {
-    WordResult {
+    Flagged {
         value: low(x) as u16 * a as u16,
-        cc: flags::with_h(false, flags::with_c(false, cc)),
+        cc: with_h(false, with_c(false, cc)),
     }
 }

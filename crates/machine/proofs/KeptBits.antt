@@ -14,11 +14,10 @@ use Rattle.stm8.specs.declared.Instruction.{Instruction}
 use Rattle.stm8.specs.declared.Instruction.TheVariants as I
 use Rattle.stm8.specs.declared.Decoded.{Decoded}
 use Rattle.stm8.specs.declared.Decoded.TheVariants.{Found, Outside, Truncated}
+use Rattle.arithmetic.specs.declared.Flagged.{Flagged}
 use Rattle.arithmetic.specs.Flags.{rest, Keeps}
 use Rattle.arithmetic.proofs.Kept.{rest_nz}
-use Rattle.byte_operations.specs.declared.ByteResult.{ByteResult}
 use Rattle.byte_operations.proofs.Kept.{alu_keeps, modify_keeps, flag_keeps, bit_test_keeps}
-use Rattle.index_operations.specs.declared.WordResult.{WordResult}
 use Rattle.index_operations.proofs.Kept.{ldw_keeps, word_alu_keeps, word_modify_keeps, mul_keeps}
 use Rattle.image.specs.declared.Limits.{Limits}
 use Rattle.image.specs.Image.{base_of}
@@ -36,11 +35,11 @@ use Rattle.execution.specs.declared.StepAnswer.TheVariants.{Made, Finished, Trap
 use Rattle.machine.specs.declared.Ran.{Ran}
 
 -- where a result goes makes no difference to CC
-index_cc : (regs : Registers) (r : Register) (result : WordResult) → (with_index regs r result).cc ≡ result.cc
+index_cc : (regs : Registers) (r : Register) (result : Flagged ℕ) → (with_index regs r result).cc ≡ result.cc
 index_cc regs X result = refl
 index_cc regs Y result = refl
 
-operand_cc : (regs : Registers) (x : Operand) (result : ByteResult) → (into_operand regs x result).cc ≡ result.cc
+operand_cc : (regs : Registers) (x : Operand) (result : Flagged ℕ) → (into_operand regs x result).cc ≡ result.cc
 operand_cc regs Accumulator result = refl
 operand_cc regs (Immediate n) result = refl
 operand_cc regs (ImmediateWord w) result = refl
@@ -50,10 +49,10 @@ operand_cc regs (Indexed r f) result = refl
 operand_cc regs (Sp f) result = refl
 
 module _ (image memory : List ℕ) (regs : Registers) (next : ℕ) where
-  into_index : (r : Register) (result : WordResult) → Keeps regs.cc result.cc → Keeps regs.cc (with_index regs r result).cc
+  into_index : (r : Register) (result : Flagged ℕ) → Keeps regs.cc result.cc → Keeps regs.cc (with_index regs r result).cc
   into_index r result kept = ap rest (index_cc regs r result) ∙ kept
 
-  into_place : (x : Operand) (result : ByteResult) → Keeps regs.cc result.cc → Keeps regs.cc (into_operand regs x result).cc
+  into_place : (x : Operand) (result : Flagged ℕ) → Keeps regs.cc result.cc → Keeps regs.cc (into_operand regs x result).cc
   into_place x result kept = ap rest (operand_cc regs x result) ∙ kept
 
   computed_keeps : (i : Instruction) → Keeps regs.cc (computed image memory regs next i).cc

@@ -2,4 +2,4 @@
 use Rattle.execution.proofs.Registers.store_a.Goals as goal
 
 pub returns : goal.returns
-returns c = rw (c.storing.ensures, c.with_nz_of_byte.ensures)
+returns c = rw (c.storing.ensures, c.with_nz.ensures)

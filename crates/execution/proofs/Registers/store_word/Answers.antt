@@ -2,4 +2,4 @@
 use Rattle.execution.proofs.Registers.store_word.Goals as goal
 
 pub returns : goal.returns
-returns c = rw (c.storing.ensures, c.with_nz_of_word.ensures, c.index-w.ensures)
+returns c = rw (c.storing.ensures, c.with_nz.ensures, c.index-w.ensures)
