@@ -1,4 +1,4 @@
-// The flags of CC.
+// The flags of CC, which is a byte here as in the registers: a struct around it would be made and taken apart at every operation.
 ghost use Rattle.std.specs.Prelude.{◌≡◌};
 ghost use Rattle.arithmetic.specs.Flags.{flag_v, flag_n, flag_z, flag_c, with_v, with_h, with_n, with_z, with_c, with_nz};
 

@@ -14,7 +14,7 @@ pub trait Unsigned: Copy {
         ensures same { result ≡ value self }
         ensures fits { result < 2 ^ BITS };
 
-    // The low bits of a number.
+    // What the low bits of a number make.
     fn low_bits(n: u32) -> Self
         ensures { value result ≡ n % 2 ^ BITS };
 
@@ -23,7 +23,7 @@ pub trait Unsigned: Copy {
 }
 
 impl Unsigned for u8 {
-    const BITS: u32 = 8;
+    const BITS: u32 = u8::BITS;
 
     ghost BITS = { 8 };
 
@@ -41,7 +41,7 @@ impl Unsigned for u8 {
 }
 
 impl Unsigned for u16 {
-    const BITS: u32 = 16;
+    const BITS: u32 = u16::BITS;
 
     ghost BITS = { 16 };
 

@@ -22,6 +22,7 @@ fn result_nzc(value: u8, c: bool, cc: u8) -> Flagged<u8>
 }
 
 // One place to the left.
+#[tactic(auto, using(arithmetic::proofs::BitLaws::flag_le), unfolding(crate::specs::Unary::shifted_left))]
 fn shifted_left(m: u8, entering: bool, cc: u8) -> Flagged<u8>
     ensures { result ≡ shifted_left m entering cc }
 {
@@ -29,6 +30,7 @@ fn shifted_left(m: u8, entering: bool, cc: u8) -> Flagged<u8>
 }
 
 // One place to the right.
+#[tactic(auto, using(arithmetic::proofs::BitLaws::flag_le), unfolding(crate::specs::Unary::shifted_right))]
 fn shifted_right(m: u8, entering: bool, cc: u8) -> Flagged<u8>
     ensures { result ≡ shifted_right m entering cc }
 {

@@ -2,7 +2,7 @@
 ghost use Rattle.std.specs.Prelude.{◌≡◌};
 ghost use Rattle.numbers.specs.Bits.{bit as bit_of, flag as flag_of};
 
-// 1 where the test holds, else 0.
+// 1 where the test holds, else 0: std's conversion, by the definition that sums and bits cite.
 pub fn flag(holds: bool) -> u8
     ensures { result ≡ flag_of holds }
 {

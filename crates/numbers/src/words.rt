@@ -1,4 +1,5 @@
-// Words and their two bytes, high byte first; reads that give 0 past the end, and a write that does nothing there.
+// Words and their two bytes, high byte first; reads that give 0 past the end, and a write that does nothing there. Where one is a method of std,
+// its contract says it by the definition of that name, which the contracts above cite.
 ghost use Rattle.std.specs.Prelude.{◌≡◌, get_or, set};
 ghost use Rattle.numbers.specs.Words.{word as word_of, high as high_of, low as low_of, word_at};
 
