@@ -6,12 +6,13 @@ use mathlib.Core.List.{List}
 use native.Mathlib.Omega.{arith}
 use lib.Dec.{ltb}
 use borrow.Author.Tests.{ltb-true, ltb-false}
+use Rattle.std.specs.Prelude.{Ok, Err}
 use Rattle.numbers.specs.Bits.{flag}
 use Rattle.numbers.specs.Checks.{unless}
+use Rattle.stm8.specs.Decoding.{Decoded}
 use Rattle.stm8.specs.Effects.{effect}
 use Rattle.stm8.specs.declared.Instruction.{Instruction}
-use Rattle.stm8.specs.declared.Decoded.{Decoded}
-use Rattle.stm8.specs.declared.Decoded.TheVariants.{Found, Outside, Truncated}
+use Rattle.stm8.specs.declared.DecodeError.TheVariants.{Outside, Truncated}
 use Rattle.image.specs.declared.Limits.{Limits}
 use Rattle.image.specs.Image.{base_of, start_of, end_of}
 use Rattle.code.specs.Depth.{popped, pushed, falls}
@@ -29,7 +30,7 @@ use Rattle.code.proofs.StartList.{starts_rise, listed_start, start_listed}
 pub record Decodes (image : List ℕ) (r o : ℕ) : Type 0 where
   pub instruction : Instruction
   pub size : ℕ
-  pub found : instruction_at image r o ≡ Found instruction size
+  pub found : instruction_at image r o ≡ Ok (instruction, size)
   pub inside : falls (effect instruction).flow ≡ true → o + size < end_of image r
 
 falls_inside : (b below : Bool) → cond b (unless below 15) 0 ≡ 0 → b ≡ true → below ≡ true
@@ -49,15 +50,15 @@ module _ (image : List ℕ) (r : ℕ) where
   code_check o = code_number (end_of image r) o (instruction_at image r o)
 
   decodes_as : (o : ℕ) (d : Decoded) → instruction_at image r o ≡ d → code_number (end_of image r) o d ≡ 0 → Decodes image r o
-  decodes_as o (Found i n) f e =
+  decodes_as o (Ok (i, n)) f e =
       record {
         instruction = i;
         size = n;
         found = f;
         inside = λ t. ltb-true _ _ (falls_inside (falls (effect i).flow) (ltb (o + n) (end_of image r)) e t);
       }
-  decodes_as o Outside f e = absurd (omega arith)
-  decodes_as o Truncated f e = absurd (omega arith)
+  decodes_as o (Err Outside) f e = absurd (omega arith)
+  decodes_as o (Err Truncated) f e = absurd (omega arith)
 
   decodes : (o : ℕ) → code_check o ≡ 0 → Decodes image r o
   decodes o e = decodes_as o (instruction_at image r o) refl e
@@ -65,11 +66,11 @@ module _ (image : List ℕ) (r : ℕ) where
   -- a fault has the number of the check, and only where the check fails
   fault_as : (o : ℕ) (d : Decoded) → instruction_at image r o ≡ d → Start image r o → (code_number (end_of image r) o d ≡ 0 → ⊥) →
       CodeFault image r o (code_number (end_of image r) o d)
-  fault_as o (Found i n) f s some =
+  fault_as o (Ok (i, n)) f s some =
       let p = falls_past (falls (effect i).flow) (ltb (o + n) (end_of image r)) some in
       rw p.2 (off s f p.0 (ltb-false _ _ p.1))
-  fault_as o Outside f s some = outside s f
-  fault_as o Truncated f s some = cut s f
+  fault_as o (Err Outside) f s some = outside s f
+  fault_as o (Err Truncated) f s some = cut s f
 
   no_fault : {o n : ℕ} → Decodes image r o → CodeFault image r o n → ⊥
   no_fault d (outside s f) = let z : ◌≡◌ {A = ℕ} 0 1 = cc in omega arith

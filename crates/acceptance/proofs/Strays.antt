@@ -8,11 +8,11 @@ use mathlib.Core.List.{List}
 use native.Mathlib.Omega.{arith}
 use lib.Dec.{eqb}
 use borrow.Author.Tests.{eqb-true, le-ltb, ne_eqb}
+use Rattle.std.specs.Prelude.{Ok}
 use Rattle.numbers.proofs.Checking.{by_test}
 use Rattle.stm8.specs.Effects.{jump_target, effect}
 use Rattle.stm8.proofs.EffectLaws.{one_target}
 use Rattle.stm8.specs.declared.Instruction.{Instruction}
-use Rattle.stm8.specs.declared.Decoded.TheVariants.{Found}
 use Rattle.stm8.specs.declared.Flow.{Flow}
 use Rattle.image.specs.declared.Limits.{Limits}
 use Rattle.image.specs.Image.{base_of, start_of, end_of}
@@ -37,7 +37,7 @@ module _ {image : List ℕ} {limits : Limits} {r : ℕ} {x : cells.Routine} (fil
   abbrev JumpCell : ℕ → Flow → ℕ → Type 0
   JumpCell = jump.JumpCell (base_of image) (start_of image r) (end_of image r)
 
-  stray : {o n cell : ℕ} {i : Instruction} → Start image r o → instruction_at image r o ≡ Found i n →
+  stray : {o n cell : ℕ} {i : Instruction} → Start image r o → instruction_at image r o ≡ Ok (i, n) →
       JumpCell (o + n) (effect i).flow cell → 1 ≤ cells.jump_number x.starts cell → JumpFault image r o (cells.jump_number x.starts cell)
   unfolding cells.jump_number
   stray s f (jump.absent no_jump) = λ positive. absurd (omega arith)
@@ -58,7 +58,7 @@ module _ {image : List ℕ} {limits : Limits} {r : ℕ} {x : cells.Routine} (fil
       (to, one_target k j, filled.start to (record { low = omega (arith, filled.entry); high = omega (arith, filled.end); is = is }))
 
   -- a jump that passes lands on a start
-  pub jump_lands : {o n : ℕ} {i : Instruction} → Start image r o → instruction_at image r o ≡ Found i n → cells.jump_check x o ≡ 0 →
+  pub jump_lands : {o n : ℕ} {i : Instruction} → Start image r o → instruction_at image r o ≡ Ok (i, n) → cells.jump_check x o ≡ 0 →
       {address : ℕ} → jump_target (base_of image + (o + n)) (effect i).flow ≡ some address →
       (to : ℕ) × (address ≡ base_of image + to) × Start image r to
   jump_lands {o} s f pass j =

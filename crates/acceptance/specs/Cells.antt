@@ -1,10 +1,9 @@
 -- The cells that the check by cells goes by, for the instructions of a routine of an image. Nobody has to believe them: they are
 -- tied to the rules by theorems.
-use Rattle.std.specs.Prelude.{ℕ, ◌+◌, ◌-◌, ◌<◌, ◌≡◌, true, cond, List, eqb, ltb}
+use Rattle.std.specs.Prelude.{ℕ, ◌+◌, ◌-◌, ◌<◌, ◌≡◌, true, cond, List, eqb, ltb, Ok}
 use Rattle.std.proofs.Math.Option.{Option, none, some}
 use Rattle.stm8.specs.Effects.{jump_target, call_target, bytes_wide, effect}
 use Rattle.stm8.specs.declared.Instruction.{Instruction}
-use Rattle.stm8.specs.declared.Decoded.TheVariants.{Found}
 use Rattle.stm8.specs.declared.Place.{Place}
 use Rattle.stm8.specs.declared.Place.TheVariants.{Nowhere, Direct, OnStack, Pushed}
 use Rattle.stm8.specs.declared.Flow.{Flow}
@@ -51,7 +50,7 @@ call_cell image r next flow = cell_of (callee_cell image r) (call_target (base_o
 pub record Stored (image : List ℕ) (limits : Limits) (r : ℕ) (x : cells.Routine) (o : ℕ) : Type 0 where
   pub instruction : Instruction
   pub size : ℕ
-  pub found : instruction_at image r o ≡ Found instruction size
+  pub found : instruction_at image r o ≡ Ok (instruction, size)
   pub inside : falls (effect instruction).flow ≡ true → o + size < end_of image r
   pub fall : x.graph.falls o ≡ fall_cell (effect instruction).flow (o + size)
   pub jump : x.graph.jumps o ≡ jump_cell (base_of image) (start_of image r) (end_of image r) (o + size) (effect instruction).flow

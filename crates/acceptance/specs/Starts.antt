@@ -1,10 +1,10 @@
 -- The cells of a routine's instructions.
-use Rattle.std.specs.Prelude.{ℕ, ◌+◌, Bool, true, false, cond, List, [], ◌∷◌, eqb, ltb}
+use Rattle.std.specs.Prelude.{ℕ, ◌+◌, Bool, true, false, cond, List, [], ◌∷◌, eqb, ltb, Ok, Err}
 use Rattle.numbers.specs.Bits.{flag}
 use Rattle.numbers.specs.Checks.{unless}
+use Rattle.stm8.specs.Decoding.{Decoded}
 use Rattle.stm8.specs.Effects.{effect}
-use Rattle.stm8.specs.declared.Decoded.{Decoded}
-use Rattle.stm8.specs.declared.Decoded.TheVariants.{Found, Outside, Truncated}
+use Rattle.stm8.specs.declared.DecodeError.TheVariants.{Outside, Truncated}
 use Rattle.stm8.specs.declared.Effect.{Effect}
 use Rattle.image.specs.declared.Limits.{Limits}
 use Rattle.image.specs.Image.{base_of, start_of, end_of}
@@ -21,15 +21,14 @@ listed o (s ∷ rest) = cond (eqb o s) true (listed o rest)
 
 -- 8, 9 or 15 at an offset
 abbrev pub code_number : ℕ → ℕ → Decoded → ℕ
-code_number end o (Found i n) = cond (falls (effect i).flow) (unless (ltb (o + n) end) 15) 0
-code_number end o Outside = 8
-code_number end o Truncated = 9
+code_number end o (Ok (i, n)) = cond (falls (effect i).flow) (unless (ltb (o + n) end) 15) 0
+code_number end o (Err Outside) = 8
+code_number end o (Err Truncated) = 9
 
 -- a cell by the effect of the instruction at an offset, and by the offset after it; 0 where there is none
 abbrev pub cell_at : (Effect → ℕ → ℕ) → ℕ → Decoded → ℕ
-cell_at cell o (Found i n) = cell (effect i) (o + n)
-cell_at cell o Outside = 0
-cell_at cell o Truncated = 0
+cell_at cell o (Ok (i, n)) = cell (effect i) (o + n)
+cell_at cell o (Err e) = 0
 
 abbrev pub cells_of : List ℕ → Limits → ℕ → Routine
 cells_of image limits r =

@@ -3,8 +3,8 @@ use Prim.Native.Nat.{ℕ, ◌<◌}
 use mathlib.Core.Path.{◌≡◌, refl}
 use mathlib.Core.Logic.{◌⊎◌, inl, inr, ⊎_elim, ◌↔◌}
 use mathlib.Core.List.{List, [], ◌∷◌, ◌++◌, flat_map}
-use Rattle.stm8.specs.declared.Decoded.{Decoded}
-use Rattle.stm8.specs.declared.Decoded.TheVariants.{Found, Outside, Truncated}
+use Rattle.std.specs.Prelude.{Ok, Err}
+use Rattle.stm8.specs.Decoding.{Decoded}
 use Rattle.image.specs.Image.{start_of, end_of}
 use Rattle.code.specs.Code.{instruction_at, Start}
 use Rattle.code.specs.Instructions.{In, head, tail, Located, located_at, starts_of, instructions_of}
@@ -37,18 +37,17 @@ module _ {A : Type 0} {x : A} where
   some_in f (head {rest}) i = in_front (flat_map f rest) i
   some_in f (tail {y} j) i = in_back (f y) (some_in f j i)
 
-located : {e : Located} (o : ℕ) (d : Decoded) → In e (located_at o d) → (e.offset ≡ o) × (d ≡ Found e.instruction e.size)
-located o (Found i n) head = (refl, refl)
-located {e = e} o (Found i n) (tail x4) = elim x4 [ ]
-located {e = e} o Outside x'' = elim x'' [ ]
-located {e = e} o Truncated x3 = elim x3 [ ]
+located : {e : Located} (o : ℕ) (d : Decoded) → In e (located_at o d) → (e.offset ≡ o) × (d ≡ Ok (e.instruction, e.size))
+located o (Ok (i, n)) head = (refl, refl)
+located {e = e} o (Ok (i, n)) (tail x4) = elim x4 [ ]
+located {e = e} o (Err error) x3 = elim x3 [ ]
 
-found_located : {d : Decoded} {e : Located} → d ≡ Found e.instruction e.size → In e (located_at e.offset d)
+found_located : {d : Decoded} {e : Located} → d ≡ Ok (e.instruction, e.size) → In e (located_at e.offset d)
 found_located f = rw f head
 
 module _ (image : List ℕ) (r : ℕ) (some : start_of image r < end_of image r) (e : Located) where
   pub instruction_listed :
-      In e (instructions_of image r) ↔ (Start image r e.offset × (instruction_at image r e.offset ≡ Found e.instruction e.size))
+      In e (instructions_of image r) ↔ (Start image r e.offset × (instruction_at image r e.offset ≡ Ok (e.instruction, e.size)))
   unfolding instructions_of
   instruction_listed = (
     λ i.

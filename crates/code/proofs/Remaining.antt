@@ -6,9 +6,9 @@ use mathlib.Core.List.{List, [], ◌∷◌, flat_map}
 use native.Mathlib.Decide.{ℕ_discrete, dec_lt}
 use native.Mathlib.Omega.{arith}
 use borrow.Author.Tests.{eq-eqb, ne_eqb, lt-ltb, le-ltb}
+use Rattle.std.specs.Prelude.{Ok}
+use Rattle.stm8.specs.Decoding.{Decoded}
 use Rattle.stm8.specs.declared.Instruction.{Instruction}
-use Rattle.stm8.specs.declared.Decoded.{Decoded}
-use Rattle.stm8.specs.declared.Decoded.TheVariants.{Found}
 use Rattle.image.specs.Image.{start_of, end_of}
 use Rattle.code.specs.Code.{instruction_at}
 use Rattle.code.specs.Instructions.{found_size, starts_from, starts_of, Located, located_at, instructions_of}
@@ -46,7 +46,7 @@ module _ (image : List ℕ) (r : ℕ) where
     more : end_of image r - o ≡ suc (end_of image r - o - 1)
     more = omega arith
 
-    pub from_found : {n : ℕ} {i : Instruction} → instruction_at image r o ≡ Found i n →
+    pub from_found : {n : ℕ} {i : Instruction} → instruction_at image r o ≡ Ok (i, n) →
         instructions_from o ≡ record { offset = o; instruction = i; size = n } ∷ instructions_from (o + n)
     unfolding starts_from flat_map
     from_found {n} {i} found =

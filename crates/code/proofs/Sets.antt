@@ -7,15 +7,16 @@ use native.Mathlib.Omega.{arith}
 use borrow.Author.Tests.{eqb-true, ne_eqb, lt-leb}
 use lib.Dec.{eqb, leb, ltb}
 use lib.ListN.{get_or, length, take, drop}
+use Rattle.std.specs.Prelude.{Ok, Err}
 use Rattle.numbers.specs.Lists.{Bytes}
 use Rattle.numbers.proofs.Computing.{below}
 use Rattle.stm8.specs.OpcodeMap.{Page, Plain, After72, After90, Entry, Blank, Is, entry}
-use Rattle.stm8.specs.Decoding.{page_of, precodes, entry_in, length_of, sized, decoded_in, decoded}
+use Rattle.stm8.specs.Decoding.{page_of, precodes, entry_in, length_of, sized, Decoded, decoded_in, decoded}
 use Rattle.stm8.specs.Encoding.{bytes_of}
 use Rattle.stm8.specs.Effects.{effect}
 use Rattle.stm8.specs.declared.Instruction.{Instruction}
-use Rattle.stm8.specs.declared.Decoded.TheVariants.{Found, Outside, Truncated}
-use Rattle.stm8.proofs.Opening.{found}
+use Rattle.stm8.specs.declared.DecodeError.TheVariants.{Outside, Truncated}
+use Rattle.stm8.proofs.Opening.{one_found, found}
 use Rattle.image.specs.Image.{version_of, code_of}
 use Rattle.code.specs.Set.{is_callr, allowed, entry_for, decoded_for}
 use Rattle.code.specs.Code.{decoded_at}
@@ -45,35 +46,36 @@ first_version image first end o = whole_map (version_of image) (λ second. omega
 -- What is found by a version's set is what the map has there, and an instruction of the set.
 module _ (version : ℕ) (i : Instruction) (n : ℕ) where
   -- no instruction of the map is found as another one
-  same_one : (j : Instruction) (cut none short : Bool) (m : ℕ) → cond cut Truncated (cond none Outside (cond short Truncated (Found j m))) ≡ Found i n → j ≡ i
-  same_one j true none short m f = let z : ◌≡◌ {A = ℕ} 0 1 = cc in absurd (omega arith)
-  same_one j false true short m f = let z : ◌≡◌ {A = ℕ} 0 1 = cc in absurd (omega arith)
-  same_one j false false true m f = let z : ◌≡◌ {A = ℕ} 0 1 = cc in absurd (omega arith)
-  same_one j false false false m f = cc
+  same_one : (j : Instruction) (cut none short : Bool) (m : ℕ) →
+      ◌≡◌ {A = Decoded} (cond cut (Err Truncated) (cond none (Err Outside) (cond short (Err Truncated) (Ok (j, m))))) (Ok (i, n)) → j ≡ i
+  same_one j true none short m f = cc
+  same_one j false true short m f = cc
+  same_one j false false true m f = cc
+  same_one j false false false m f = (one_found f).0
 
   -- and none that is left out
   kept : (j : Instruction) (t cut : Bool) (room : ℕ) → allowed version j ≡ t →
-      cond cut Truncated (sized (length_of (cond t (Is j) Blank)) (Is j) room) ≡ Found i n →
-      (cond cut Truncated (sized (length (bytes_of j)) (Is j) room) ≡ Found i n) × (allowed version j ≡ true)
+      cond cut (Err Truncated) (sized (length_of (cond t (Is j) Blank)) (Is j) room) ≡ Ok (i, n) →
+      (cond cut (Err Truncated) (sized (length (bytes_of j)) (Is j) room) ≡ Ok (i, n)) × (allowed version j ≡ true)
   kept j true cut room e f = (f, e)
-  kept j false true room e f = let z : ◌≡◌ {A = ℕ} 0 1 = cc in absurd (omega arith)
-  kept j false false room e f = let z : ◌≡◌ {A = ℕ} 0 1 = cc in absurd (omega arith)
+  kept j false true room e f = cc
+  kept j false false room e f = cc
 
-  entry_found : (e : Entry) (cut : Bool) (room : ℕ) → cond cut Truncated (sized (length_of (entry_for version e)) e room) ≡ Found i n →
-      (cond cut Truncated (sized (length_of e) e room) ≡ Found i n) × (allowed version i ≡ true)
-  entry_found Blank true room f = let z : ◌≡◌ {A = ℕ} 0 1 = cc in absurd (omega arith)
-  entry_found Blank false room f = let z : ◌≡◌ {A = ℕ} 0 1 = cc in absurd (omega arith)
+  entry_found : (e : Entry) (cut : Bool) (room : ℕ) → cond cut (Err Truncated) (sized (length_of (entry_for version e)) e room) ≡ Ok (i, n) →
+      (cond cut (Err Truncated) (sized (length_of e) e room) ≡ Ok (i, n)) × (allowed version i ≡ true)
+  entry_found Blank true room f = cc
+  entry_found Blank false room f = cc
   entry_found (Is j) cut room f =
       let k = kept j (allowed version j) cut room refl f in
       let m = length (bytes_of j) in
       (k.0, rw (← same_one j cut (eqb m 0) (ltb room m) m k.0) k.1)
 
-  pub found_in_set : (s : List ℕ) → decoded_for version s ≡ Found i n → (decoded s ≡ Found i n) × (allowed version i ≡ true)
+  pub found_in_set : (s : List ℕ) → decoded_for version s ≡ Ok (i, n) → (decoded s ≡ Ok (i, n)) × (allowed version i ≡ true)
   unfolding decoded_for decoded
   found_in_set s f = let page = page_of (get_or s 0 0) in entry_found (entry_in page s) (leb (length s) (precodes page)) (length s) f
 
   -- and the other way round
-  pub set_has : (s : List ℕ) → decoded s ≡ Found i n → allowed version i ≡ true → decoded_for version s ≡ Found i n
+  pub set_has : (s : List ℕ) → decoded s ≡ Ok (i, n) → allowed version i ≡ true → decoded_for version s ≡ Ok (i, n)
   unfolding decoded_for decoded
   set_has s f in_set =
       let page = page_of (get_or s 0 0) in
@@ -121,7 +123,7 @@ has_byte [] e = absurd (omega (arith, e))
 has_byte (b ∷ s) e = omega arith
 
 -- So bytes that begin with AD are outside the set of version 0002, however few they are, and all others are what the map has.
-pub decoded_for_lem : (version : ℕ) (s : List ℕ) → Bytes s → decoded_for version s ≡ cond (left_out version (get_or s 0 0)) Outside (decoded s)
+pub decoded_for_lem : (version : ℕ) (s : List ℕ) → Bytes s → decoded_for version s ≡ cond (left_out version (get_or s 0 0)) (Err Outside) (decoded s)
 unfolding decoded_for decoded
 decoded_for_lem version s bytes =
     let page = page_of (get_or s 0 0) in
@@ -131,7 +133,7 @@ decoded_for_lem version s bytes =
     by_first (length_of e) (eqb (get_or s 0 0) 0xAD) (without_callr version) refl
   where
     by_first : (n : ℕ) (ad out : Bool) → eqb (get_or s 0 0) 0xAD ≡ ad →
-        let page = page_of (get_or s 0 0) in decoded_in page (cond (cond ad out false) 0 n) s ≡ cond (cond ad out false) Outside (decoded_in page n s)
+        let page = page_of (get_or s 0 0) in decoded_in page (cond (cond ad out false) 0 n) s ≡ cond (cond ad out false) (Err Outside) (decoded_in page n s)
     by_first n true true e =
         let ad = eqb-true (get_or s 0 0) 0xAD e in
         let first : precodes (page_of (get_or s 0 0)) ≡ 0 = rw ad in
@@ -140,10 +142,10 @@ decoded_for_lem version s bytes =
     by_first n false out e = refl
 
 -- and an instruction of the map that the version does not allow is outside its set
-pub not_allowed : (version : ℕ) (s : List ℕ) → Bytes s → (i : Instruction) (n : ℕ) → decoded s ≡ Found i n → allowed version i ≡ false →
-    decoded_for version s ≡ Outside
+pub not_allowed : (version : ℕ) (s : List ℕ) → Bytes s → (i : Instruction) (n : ℕ) → decoded s ≡ Ok (i, n) → allowed version i ≡ false →
+    decoded_for version s ≡ Err Outside
 not_allowed version s bytes i n f none = go (left_out version (get_or s 0 0)) (decoded_for_lem version s bytes)
   where
-    go : (t : Bool) → decoded_for version s ≡ cond t Outside (decoded s) → decoded_for version s ≡ Outside
+    go : (t : Bool) → decoded_for version s ≡ cond t (Err Outside) (decoded s) → decoded_for version s ≡ Err Outside
     go true e = e
     go false e = absurd (false≢true (sym none ∙ (found_in_set version i n s (e ∙ f)).1))

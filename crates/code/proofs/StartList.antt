@@ -6,9 +6,9 @@ use mathlib.Core.List.{List, [], ◌∷◌}
 use native.Mathlib.Decide.{ℕ_discrete, dec_lt}
 use native.Mathlib.Omega.{arith}
 use borrow.Author.Tests.{eq-eqb, ne_eqb, lt-ltb, le-ltb}
+use Rattle.std.specs.Prelude.{Ok, Err}
+use Rattle.stm8.specs.Decoding.{Decoded}
 use Rattle.stm8.specs.declared.Instruction.{Instruction}
-use Rattle.stm8.specs.declared.Decoded.{Decoded}
-use Rattle.stm8.specs.declared.Decoded.TheVariants.{Found, Outside, Truncated}
 use Rattle.image.specs.Image.{start_of, end_of}
 use Rattle.code.specs.Code.{instruction_at, Start, begins, follows}
 use Rattle.code.specs.Instructions.{In, head, tail, found_size, starts_from, starts_of}
@@ -24,12 +24,11 @@ rising_from h none = none
 rising_from {a} h (next {o = o} low rest) = let l : a ≤ o = omega arith in next l rest
 
 -- an instruction stands where there are bytes of one
-found_of : (d : Decoded) → (found_size d ≡ 0 → ⊥) → (i : Instruction) × (d ≡ Found i (found_size d))
-found_of (Found i n) some = (i, refl)
-found_of Outside some = absurd (some refl)
-found_of Truncated some = absurd (some refl)
+found_of : (d : Decoded) → (found_size d ≡ 0 → ⊥) → (i : Instruction) × (d ≡ Ok (i, found_size d))
+found_of (Ok (i, n)) some = (i, refl)
+found_of (Err e) some = absurd (some refl)
 
-bytes_found : {d : Decoded} {i : Instruction} {n : ℕ} → d ≡ Found i n → found_size d ≡ n
+bytes_found : {d : Decoded} {i : Instruction} {n : ℕ} → d ≡ Ok (i, n) → found_size d ≡ n
 bytes_found e = ap found_size e
 
 pub in_none : {A B : Type 0} {x : B} {l : List B} → l ≡ [] → In x l → A
@@ -43,8 +42,8 @@ module _ (image : List ℕ) (r : ℕ) where
 
   -- the list from an offset on, by what stands there
   pub data Onward (fuel o : ℕ) : List ℕ → Type 0 where
-    last : ((i : Instruction) (n : ℕ) → instruction_at image r o ≡ Found i n → 0 < n → o + n < end_of image r → ⊥) → Onward fuel o (o ∷ [])
-    more : {n : ℕ} {i : Instruction} → instruction_at image r o ≡ Found i n → 0 < n → o + n < end_of image r →
+    last : ((i : Instruction) (n : ℕ) → instruction_at image r o ≡ Ok (i, n) → 0 < n → o + n < end_of image r → ⊥) → Onward fuel o (o ∷ [])
+    more : {n : ℕ} {i : Instruction} → instruction_at image r o ≡ Ok (i, n) → 0 < n → o + n < end_of image r →
         Onward fuel o (o ∷ starts_from fuel image r (o + n))
 
   pub onward : (fuel o : ℕ) → Onward fuel o (starts_from (suc fuel) image r o)
@@ -100,7 +99,7 @@ module _ (image : List ℕ) (r : ℕ) where
   front_listed zero o some = absurd (omega arith)
   front_listed (suc fuel) o some = in_front (onward fuel o)
 
-  module _ {p n : ℕ} {i : Instruction} (f : instruction_at image r p ≡ Found i n) (inside : p + n < end_of image r) where
+  module _ {p n : ℕ} {i : Instruction} (f : instruction_at image r p ≡ Ok (i, n)) (inside : p + n < end_of image r) where
     next_on : {fuel o : ℕ} {l : List ℕ} → Onward fuel o l → end_of image r ≤ o + suc fuel →
         ((k : ℕ) → end_of image r ≤ k + fuel → In p (starts_from fuel image r k) → In (p + n) (starts_from fuel image r k)) → In p l → In (p + n) l
     next_on (last end) enough rest head = absurd (end i n f (found_inside image r p f).0 inside)

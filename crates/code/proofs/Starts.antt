@@ -1,17 +1,18 @@
 -- The starts of a routine lie inside it, one after the other: none inside an instruction.
 use Prim.Native.Nat.{ℕ, ◌+◌, ◌-◌, ◌<◌, ◌≤◌}
-use mathlib.Core.Path.{◌≡◌, ap, ◌∙◌}
+use mathlib.Core.Path.{◌≡◌, sym, ap, ◌∙◌}
 use mathlib.Core.Logic.{by_cases}
 use mathlib.Core.List.{List}
 use native.Mathlib.Decide.{ℕ_discrete, dec_lt}
 use native.Mathlib.Omega.{arith}
 use lib.ListN.{take, drop, length-take}
 use lib.Seq.{take-add}
+use Rattle.std.specs.Prelude.{Ok}
 use Rattle.numbers.specs.Lists.{Bytes}
 use Rattle.numbers.proofs.Bytes.{bytes_taken, bytes_dropped}
+use Rattle.stm8.specs.Decoding.{Decoded}
 use Rattle.stm8.specs.declared.Instruction.{Instruction}
-use Rattle.stm8.specs.declared.Decoded.{Decoded}
-use Rattle.stm8.specs.declared.Decoded.TheVariants.{Found}
+use Rattle.stm8.proofs.Opening.{one_found}
 use Rattle.stm8.proofs.Longer.{found_within, longer}
 use Rattle.image.specs.Image.{version_of, code_of, size_of, start_of, end_of}
 use Rattle.code.specs.Set.{decoded_for}
@@ -19,19 +20,19 @@ use Rattle.code.specs.Code.{decoded_at, instruction_at, instruction_in, Start, b
 use Rattle.code.proofs.Sets.{found_in_set, set_has}
 
 -- bytes are one instruction, of one length
-pub same_found : {x : Decoded} {i i' : Instruction} {n n' : ℕ} → x ≡ Found i n → x ≡ Found i' n' → (i ≡ i') × (n ≡ n')
-same_found p q = (cc, cc)
+pub same_found : {x : Decoded} {i i' : Instruction} {n n' : ℕ} → x ≡ Ok (i, n) → x ≡ Ok (i', n') → (i ≡ i') × (n ≡ n')
+same_found p q = one_found (sym p ∙ q)
 
 module _ (image : List ℕ) where
   -- an instruction has bytes, and ends where the bytes end that it is found in
-  pub found_before : (end o : ℕ) {n : ℕ} {i : Instruction} → decoded_at image end o ≡ Found i n → (0 < n) × (o + n ≤ end)
+  pub found_before : (end o : ℕ) {n : ℕ} {i : Instruction} → decoded_at image end o ≡ Ok (i, n) → (0 < n) × (o + n ≤ end)
   unfolding decoded_at
   found_before end o {n} {i} f =
       let part = take (end - o) (drop o (code_of image)) in
       let within = found_within part i n (found_in_set (version_of image) i n part f).0 in
       (within.0, omega (arith, within, length-take (end - o) (drop o (code_of image))))
 
-  pub found_short : (end o : ℕ) {n : ℕ} {i : Instruction} → decoded_at image end o ≡ Found i n → n ≤ 5
+  pub found_short : (end o : ℕ) {n : ℕ} {i : Instruction} → decoded_at image end o ≡ Ok (i, n) → n ≤ 5
   unfolding decoded_at
   found_short end o {n} {i} f =
       let part = take (end - o) (drop o (code_of image)) in
@@ -39,7 +40,7 @@ module _ (image : List ℕ) where
 
   -- more bytes after it do not change it
   pub found_longer : Bytes (code_of image) → (end end' o : ℕ) {n : ℕ} {i : Instruction} → end ≤ end' →
-      decoded_at image end o ≡ Found i n → decoded_at image end' o ≡ Found i n
+      decoded_at image end o ≡ Ok (i, n) → decoded_at image end' o ≡ Ok (i, n)
   unfolding decoded_at
   found_longer bytes end end' o {n} {i} h f =
       let v = version_of image in
@@ -53,12 +54,12 @@ module _ (image : List ℕ) where
       set_has v i n _ (more (take (end' - o - (end - o)) (drop (end - o) code))) here.1
 
 module _ (image : List ℕ) (r : ℕ) where
-  pub found_inside : (o : ℕ) {n : ℕ} {i : Instruction} → instruction_at image r o ≡ Found i n → (0 < n) × (o + n ≤ end_of image r)
+  pub found_inside : (o : ℕ) {n : ℕ} {i : Instruction} → instruction_at image r o ≡ Ok (i, n) → (0 < n) × (o + n ≤ end_of image r)
   found_inside o f = found_before image (end_of image r) o f
 
   -- the bytes after the routine do not change what stands at an offset
   pub found_in_code : Bytes (code_of image) → end_of image r ≤ size_of image → (o : ℕ) {n : ℕ} {i : Instruction} →
-      instruction_at image r o ≡ Found i n → instruction_in image o ≡ Found i n
+      instruction_at image r o ≡ Ok (i, n) → instruction_in image o ≡ Ok (i, n)
   found_in_code bytes inside o f = found_longer image bytes (end_of image r) (size_of image) o inside f
 
   pub start_low : {o : ℕ} → Start image r o → start_of image r ≤ o
@@ -71,9 +72,9 @@ module _ (image : List ℕ) (r : ℕ) where
 
   -- the instructions below an offset end there or before
   EndsBelow : ℕ → Type 0
-  EndsBelow o = (k n : ℕ) (i : Instruction) → Start image r k → instruction_at image r k ≡ Found i n → k < o → k + n ≤ o
+  EndsBelow o = (k n : ℕ) (i : Instruction) → Start image r k → instruction_at image r k ≡ Ok (i, n) → k < o → k + n ≤ o
 
-  none_inside : {o n : ℕ} {i : Instruction} → Start image r o → EndsBelow o → instruction_at image r o ≡ Found i n →
+  none_inside : {o n : ℕ} {i : Instruction} → Start image r o → EndsBelow o → instruction_at image r o ≡ Ok (i, n) →
       {k : ℕ} → Start image r k → o < k → o + n ≤ k
   unfolding EndsBelow
   none_inside s below f begins h = absurd (omega (arith, start_low s))
@@ -95,5 +96,5 @@ module _ (image : List ℕ) (r : ℕ) where
       (λ l. absurd (omega (arith, none_inside s (λ k n i t g h. ends_below s k n i t g h) f t (omega arith)))))
 
   -- the start after one is not before its instruction's end
-  pub next_start : {o k n : ℕ} {i : Instruction} → Start image r o → instruction_at image r o ≡ Found i n → Start image r k → o < k → o + n ≤ k
+  pub next_start : {o k n : ℕ} {i : Instruction} → Start image r o → instruction_at image r o ≡ Ok (i, n) → Start image r k → o < k → o + n ≤ k
   next_start s f t h = none_inside s (ends_below s) f t h

@@ -1,8 +1,7 @@
 -- The code of an image: what stands at an offset from its first byte, and where the instructions of a routine begin.
-use Rattle.std.specs.Prelude.{ℕ, ◌+◌, ◌-◌, ◌<◌, ◌≡◌, List, take, drop}
+use Rattle.std.specs.Prelude.{ℕ, ◌+◌, ◌-◌, ◌<◌, ◌≡◌, List, take, drop, Ok}
+use Rattle.stm8.specs.Decoding.{Decoded}
 use Rattle.stm8.specs.declared.Instruction.{Instruction}
-use Rattle.stm8.specs.declared.Decoded.{Decoded}
-use Rattle.stm8.specs.declared.Decoded.TheVariants.{Found}
 use Rattle.image.specs.Image.{version_of, code_of, size_of, start_of, end_of}
 use Rattle.code.specs.Set.{decoded_for}
 
@@ -21,4 +20,4 @@ instruction_in image o = decoded_at image (size_of image) o
 -- Each routine is swept from its first byte, instruction after instruction; where one begins is a start.
 pub data Start (image : List ℕ) (r : ℕ) : ℕ → Type 0 where
   begins : Start image r (start_of image r)
-  follows : {o n : ℕ} {i : Instruction} → Start image r o → instruction_at image r o ≡ Found i n → o + n < end_of image r → Start image r (o + n)
+  follows : {o n : ℕ} {i : Instruction} → Start image r o → instruction_at image r o ≡ Ok (i, n) → o + n < end_of image r → Start image r (o + n)

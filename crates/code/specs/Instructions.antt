@@ -1,9 +1,8 @@
 -- The starts and the instructions of a routine as lists, rising.
-use Rattle.std.specs.Prelude.{ℕ, zero, suc, ◌+◌, ◌-◌, cond, eqb, ltb}
+use Rattle.std.specs.Prelude.{ℕ, zero, suc, ◌+◌, ◌-◌, cond, eqb, ltb, Ok, Err}
 use mathlib.Core.List.{List, [], ◌∷◌, flat_map}
+use Rattle.stm8.specs.Decoding.{Decoded}
 use Rattle.stm8.specs.declared.Instruction.{Instruction}
-use Rattle.stm8.specs.declared.Decoded.{Decoded}
-use Rattle.stm8.specs.declared.Decoded.TheVariants.{Found, Outside, Truncated}
 use Rattle.image.specs.Image.{start_of, end_of}
 use Rattle.code.specs.Code.{instruction_at}
 
@@ -14,9 +13,8 @@ pub data In {A : Type 0} (x : A) : List A → Type 0 where
 
 -- the bytes of an instruction, 0 where there is none
 abbrev pub found_size : Decoded → ℕ
-found_size (Found i n) = n
-found_size Outside = 0
-found_size Truncated = 0
+found_size (Ok (i, n)) = n
+found_size (Err e) = 0
 
 -- the starts from an offset on, to the routine's end or to one where no instruction stands; fuel is at least the number of bytes left
 unfoldable pub starts_from : ℕ → List ℕ → ℕ → ℕ → List ℕ
@@ -35,9 +33,8 @@ pub record Located : Type 0 where
   pub size : ℕ
 
 abbrev pub located_at : ℕ → Decoded → List Located
-located_at o (Found i n) = record { offset = o; instruction = i; size = n } ∷ []
-located_at o Outside = []
-located_at o Truncated = []
+located_at o (Ok (i, n)) = record { offset = o; instruction = i; size = n } ∷ []
+located_at o (Err e) = []
 
 -- the instructions at a routine's starts; that these are all of them, and nothing else, is a theorem
 unfoldable pub instructions_of : List ℕ → ℕ → List Located

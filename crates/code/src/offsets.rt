@@ -1,7 +1,6 @@
 // What stands at an offset of an image's code.
 ghost use Rattle.std.specs.Prelude.{◌≡◌, List, ℕ, ◌+◌, ◌<◌, ◌≤◌, min};
 ghost use Rattle.stm8.specs.declared.Instruction.{Instruction};
-ghost use Rattle.stm8.specs.declared.Decoded.TheVariants.{Found};
 ghost use Rattle.image.specs.Image.{version_of, code_of};
 ghost use Rattle.code.specs.Code.{decoded_at};
 
@@ -19,7 +18,7 @@ fn least(a: usize, b: usize) -> usize
 // ends at the bound or before.
 pub fn decode_at(version: u16, code: &[u8], at: usize, end: usize) -> Decoded
     ensures by_index { (image : List ℕ) → version ≡ version_of image → code.now ≡ code_of image → result ≡ decoded_at image end at }
-    ensures n_nonzero { (i : Instruction) (n : ℕ) → result ≡ Found i n → (0 < n) × (at + n ≤ end) }
+    ensures n_nonzero { (i : Instruction) (n : ℕ) → result ≡ Ok (i, n) → (0 < n) × (at + n ≤ end) }
 {
     let to = least(end, code.len());
     let from = least(at, to);

@@ -5,7 +5,7 @@ ghost use Rattle.code.specs.Internal.{left_out};
 
 use decoder::decode;
 use numbers::words::byte_at;
-use stm8::{Decoded, Instruction, map_lengths};
+use stm8::{DecodeError, Decoded, Instruction, map_lengths};
 
 // Whether a version allows an instruction.
 fn allowed(version: u16, i: Instruction) -> bool
@@ -33,19 +33,10 @@ fn left_out(version: u16, first: u8) -> bool
 pub fn decode_for(version: u16, bytes: &[u8]) -> Decoded
     ensures { result ≡ decoded_for version bytes.now }
 {
-    let d = decode(bytes);
-    let Decoded::Found(i, _) = d else {
-        return if left_out(version, byte_at(bytes, 0)) {
-            Decoded::Outside
-        } else {
-            d
-        };
-    };
-    if allowed(version, i) {
-        d
-    } else {
-        Decoded::Outside
+    if left_out(version, byte_at(bytes, 0)) {
+        return Err(DecodeError::Outside);
     }
+    decode(bytes)
 }
 
 // The lengths of a version's op-codes, a table for each page, to be lent to `decode_by`.

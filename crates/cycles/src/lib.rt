@@ -91,10 +91,6 @@ pub fn cycles_of(i: Instruction) -> Cycles
 pub fn with_cycles(decoded: Decoded) -> Timed
     ensures { result ≡ with_cycles decoded }
 {
-    let cycles = match decoded {
-        Decoded::Found(i, _) => cycles_of(i),
-        Decoded::Outside => NONE,
-        Decoded::Truncated => NONE,
-    };
+    let cycles = decoded.map_or(NONE, |(i, _)| cycles_of(i));
     Timed { decoded, cycles }
 }

@@ -8,13 +8,13 @@ use native.Mathlib.Decide.{ℕ_discrete, dec_lt}
 use native.Mathlib.Omega.{arith}
 use lib.ListN.{length, get_or, set, length-set}
 use lib.Seq.{get_or-set_same, get_or-set_other}
-use Rattle.stm8.specs.Decoding.{decoding_number}
+use Rattle.std.specs.Prelude.{Ok, Err}
+use Rattle.stm8.specs.Decoding.{decoding_number, Decoded}
 use Rattle.stm8.specs.Effects.{effect}
 use Rattle.stm8.specs.declared.Instruction.{Instruction}
 use Rattle.stm8.specs.declared.Effect.{Effect}
 use Rattle.stm8.specs.declared.Flow.{Flow}
-use Rattle.stm8.specs.declared.Decoded.{Decoded}
-use Rattle.stm8.specs.declared.Decoded.TheVariants.{Found, Outside, Truncated}
+use Rattle.stm8.specs.declared.DecodeError.TheVariants.{Outside, Truncated}
 use Rattle.image.specs.Image.{end_of}
 use Rattle.code.specs.Depth.{falls}
 use Rattle.code.specs.Code.{decoded_at, instruction_at, Start, begins, follows}
@@ -47,12 +47,12 @@ start_below {image} {r} routine s =
 
 -- a decoder's answer that is no instruction
 abbrev pub NoInstruction : Decoded → Type 0
-NoInstruction d = (i : Instruction) (n : ℕ) → d ≡ Found i n → ⊥
+NoInstruction d = (i : Instruction) (n : ℕ) → d ≡ Ok (i, n) → ⊥
 
 pub number_some : (d : Decoded) {number : ℕ} → NoInstruction d → number ≡ decoding_number d → 1 ≤ number
-number_some (Found i n) none e = absurd (none i n refl)
-number_some Outside none e = omega arith
-number_some Truncated none e = omega arith
+number_some (Ok (i, n)) none e = absurd (none i n refl)
+number_some (Err Outside) none e = omega arith
+number_some (Err Truncated) none e = omega arith
 
 -- what is decoded up to the routine's end is what stands at the offset
 pub decoded_there : {image code begins : List ℕ} {r : Routine} {d : Decoded} (at : ℕ) → Given image code begins r → d ≡ decoded_at image r.end at →
@@ -62,16 +62,16 @@ decoded_there {image} at given is = is ∙ ap (λ n. decoded_at image n at) give
 -- the three ways through a start, with each value as a variable
 module _ {image : List ℕ} {r : Routine} {at : ℕ} (start : Start image r.index at) where
   undecoded : {next : ℕ} {row : List ℕ} (d : Decoded) → instruction_at image r.index at ≡ d → NoInstruction d → StartDecoded image r at (decoding_number d) next row
-  undecoded (Found i n) e none = absurd (none i n refl)
-  undecoded Outside e none = faulty (outside start e)
-  undecoded Truncated e none = faulty (cut start e)
+  undecoded (Ok (i, n)) e none = absurd (none i n refl)
+  undecoded (Err Outside) e none = faulty (outside start e)
+  undecoded (Err Truncated) e none = faulty (cut start e)
 
   pub start_undecoded : {number next : ℕ} {row : List ℕ} (d : Decoded) → d ≡ instruction_at image r.index at → NoInstruction d → number ≡ decoding_number d →
       StartDecoded image r at number next row
   start_undecoded d e none number_is = rw number_is (undecoded d (sym e) none)
 
   module _ (routine : RoutineOf image r) {i : Instruction} {n : ℕ} {e : Effect} {past : Bool}
-      (found : instruction_at image r.index at ≡ Found i n) (effect_is : e ≡ effect i) (ends : OffEnd r.end (at + n) e.flow past) where
+      (found : instruction_at image r.index at ≡ Ok (i, n)) (effect_is : e ≡ effect i) (ends : OffEnd r.end (at + n) e.flow past) where
     pub start_off : {number next : ℕ} {row : List ℕ} → past ≡ true → number ≡ 15 → StartDecoded image r at number next row
     start_off t number_is =
         let p = ends.past t in
@@ -102,7 +102,7 @@ module _ {image : List ℕ} {r : Routine} {rows : List (List ℕ)} {at : ℕ} (t
   room : at < length rows
   room = omega (arith, to.rest.size, routine.size)
 
-  module _ {i : Instruction} {n : ℕ} {row : List ℕ} (found : instruction_at image r.index at ≡ Found i n)
+  module _ {i : Instruction} {n : ℕ} {row : List ℕ} (found : instruction_at image r.index at ≡ Ok (i, n))
       (inside : falls (effect i).flow ≡ true → at + n < end_of image r.index)
       (row_is : row ≡ row_of image r.limits r.index (at + n) (effect i)) where
     new_row : get_or (set rows at row) at [] ≡ row_of image r.limits r.index (at + n) (effect i)

@@ -1,8 +1,7 @@
 -- What the private functions of the decode pass ask of each other. No public contract cites it.
-use Rattle.std.specs.Prelude.{ℕ, ◌+◌, ◌≤◌, ◌<◌, ◌≡◌, ◌⊎◌, Bool, true, false, List, [], ◌∷◌}
+use Rattle.std.specs.Prelude.{ℕ, ◌+◌, ◌≤◌, ◌<◌, ◌≡◌, ◌⊎◌, Bool, true, false, List, [], ◌∷◌, Ok}
 use Rattle.stm8.specs.Effects.{effect}
 use Rattle.stm8.specs.declared.Instruction.{Instruction}
-use Rattle.stm8.specs.declared.Decoded.TheVariants.{Found}
 use Rattle.stm8.specs.declared.Effect.{Effect}
 use Rattle.stm8.specs.declared.Flow.{Flow}
 use Rattle.image.specs.Image.{base_of, start_of, end_of}
@@ -41,7 +40,7 @@ pub record Small (r : Routine) (at : ℕ) : Type 0 where
 -- One start: 8, 9 or 15, or where the next one is, and its row.
 pub data StartDecoded (image : List ℕ) (r : Routine) (at : ℕ) : ℕ → ℕ → List ℕ → Type 0 where
   faulty : {number next : ℕ} {row : List ℕ} → CodeFault image r.index at number → StartDecoded image r at number next row
-  whole : {i : Instruction} {n : ℕ} {row : List ℕ} → instruction_at image r.index at ≡ Found i n →
+  whole : {i : Instruction} {n : ℕ} {row : List ℕ} → instruction_at image r.index at ≡ Ok (i, n) →
       (falls (effect i).flow ≡ true → at + n < end_of image r.index) → row ≡ row_of image r.limits r.index (at + n) (effect i) →
       StartDecoded image r at 0 (at + n) row
 

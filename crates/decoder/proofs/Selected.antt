@@ -6,9 +6,8 @@ use borrow.Author.Tests.{ne_eqb}
 use lib.ListN.{get_or}
 use Rattle.numbers.proofs.Computing.{below, table_at}
 use Rattle.stm8.specs.OpcodeMap.{Page, Plain, After72, After90, entry}
-use Rattle.stm8.specs.Decoding.{page_of, precodes, entry_in, length_of, lengths, decoded_in, decoded, table_of}
+use Rattle.stm8.specs.Decoding.{page_of, precodes, entry_in, length_of, lengths, decoded_in, decoded, table_of, Decoded}
 use Rattle.stm8.specs.declared.Instruction.{Instruction}
-use Rattle.stm8.specs.declared.Decoded.{Decoded}
 use Rattle.decoder.specs.Parts.{decoded_or, decoded_by_or, row_lengths}
 
 module _ {first b : ℕ} (is : first ≡ b) where

@@ -1,15 +1,14 @@
 -- What the parts of decoding answer: bytes on a page, by lent tables; and the lengths of a row. No public contract cites it.
-use Rattle.std.specs.Prelude.{ℕ, ◌+◌, ◌*◌, List, [], ◌∷◌, map, cond, leb, length, get_or}
+use Rattle.std.specs.Prelude.{ℕ, ◌+◌, ◌*◌, List, [], ◌∷◌, map, cond, leb, length, get_or, Err}
 use Rattle.stm8.specs.OpcodeMap.{Page, Is, rows}
-use Rattle.stm8.specs.Decoding.{page_of, precodes, entry_in, length_of, sized, table_of}
+use Rattle.stm8.specs.Decoding.{page_of, precodes, entry_in, length_of, sized, table_of, Decoded}
 use Rattle.stm8.specs.declared.Instruction.{Instruction}
-use Rattle.stm8.specs.declared.Decoded.{Decoded}
-use Rattle.stm8.specs.declared.Decoded.TheVariants.{Truncated}
+use Rattle.stm8.specs.declared.DecodeError.TheVariants.{Truncated}
 use Rattle.opcodes.specs.Entries.{or_else}
 
 -- the bytes on a page whose op-code has n bytes, where a blank entry counts as i
 unfoldable pub decoded_or : Instruction → Page → ℕ → List ℕ → Decoded
-decoded_or i page n s = cond (leb (length s) (precodes page)) Truncated (sized n (Is (or_else i (entry_in page s))) (length s))
+decoded_or i page n s = cond (leb (length s) (precodes page)) (Err Truncated) (sized n (Is (or_else i (entry_in page s))) (length s))
 
 -- the same by lent tables
 unfoldable pub decoded_by_or : Instruction → List (List ℕ) → List ℕ → Decoded

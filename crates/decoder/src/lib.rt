@@ -12,7 +12,7 @@ mod pages;
 pub use lengths::opcode_length;
 use lengths::{after_72_length, after_90_length, plain_length};
 use numbers::words::byte_at;
-use stm8::Decoded;
+use stm8::{DecodeError, Decoded};
 
 // By the map's own lengths: no second test tells whether the map has the op-code.
 pub fn decode(bytes: &[u8]) -> Decoded
@@ -46,14 +46,11 @@ fn decode_any(bytes: &[u8], lengths: &[[u8; 256]; 3]) -> Decoded
 pub fn decode_by(bytes: &[u8], lengths: &[[u8; 256]; 3]) -> Decoded
     ensures { result ≡ decoded_by lengths.now bytes.now }
 {
-    let found = decode_any(bytes, lengths);
-    if decoding_number(found) != 0 {
-        return found;
+    let found = decode_any(bytes, lengths)?;
+    match decode(bytes) {
+        Err(DecodeError::Outside) => Err(DecodeError::Outside),
+        _ => Ok(found),
     }
-    if decoding_number(decode(bytes)) == 8 {
-        return Decoded::Outside;
-    }
-    found
 }
 
 // Document 01's number of an answer, 0 for an instruction.
@@ -61,8 +58,8 @@ pub fn decoding_number(decoded: Decoded) -> u8
     ensures { result ≡ decoding_number decoded }
 {
     match decoded {
-        Decoded::Found(_, _) => 0,
-        Decoded::Outside => 8,
-        Decoded::Truncated => 9,
+        Ok(_) => 0,
+        Err(DecodeError::Outside) => 8,
+        Err(DecodeError::Truncated) => 9,
     }
 }

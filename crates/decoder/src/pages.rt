@@ -8,7 +8,7 @@ ghost use Rattle.decoder.specs.Parts.{decoded_or};
 
 use numbers::words::{byte_at, high, word, word_at};
 use opcodes::{after_72_instruction, after_90_instruction, plain_instruction};
-use stm8::Decoded;
+use stm8::{DecodeError, Decoded};
 
 // Two words as one number, and each of them.
 fn joined(first: u16, second: u16) -> u32
@@ -49,19 +49,19 @@ pub fn plain(bytes: &[u8], length: usize) -> Decoded
     ensures { (i : Instruction) × (result ≡ decoded_or i Plain length bytes.now) }
 {
     if bytes.len() == 0 {
-        return Decoded::Truncated;
+        return Err(DecodeError::Truncated);
     }
     if length == 0 {
-        return Decoded::Outside;
+        return Err(DecodeError::Outside);
     }
     if bytes.len() < length {
-        return Decoded::Truncated;
+        return Err(DecodeError::Truncated);
     }
     let rest = two_words(bytes, 1);
-    Decoded::Found(
+    Ok((
         plain_instruction(byte_at(bytes, 0), first_word(rest), second_word(rest)),
         length,
-    )
+    ))
 }
 
 // The same on the page after 72.
@@ -69,19 +69,19 @@ pub fn after_72(bytes: &[u8], length: usize) -> Decoded
     ensures { (i : Instruction) × (result ≡ decoded_or i After72 length bytes.now) }
 {
     if bytes.len() <= 1 {
-        return Decoded::Truncated;
+        return Err(DecodeError::Truncated);
     }
     if length == 0 {
-        return Decoded::Outside;
+        return Err(DecodeError::Outside);
     }
     if bytes.len() < length {
-        return Decoded::Truncated;
+        return Err(DecodeError::Truncated);
     }
     let rest = two_words(bytes, 2);
-    Decoded::Found(
+    Ok((
         after_72_instruction(byte_at(bytes, 1), first_word(rest), high(second_word(rest))),
         length,
-    )
+    ))
 }
 
 // The same on the page after 90.
@@ -89,16 +89,16 @@ pub fn after_90(bytes: &[u8], length: usize) -> Decoded
     ensures { (i : Instruction) × (result ≡ decoded_or i After90 length bytes.now) }
 {
     if bytes.len() <= 1 {
-        return Decoded::Truncated;
+        return Err(DecodeError::Truncated);
     }
     if length == 0 {
-        return Decoded::Outside;
+        return Err(DecodeError::Outside);
     }
     if bytes.len() < length {
-        return Decoded::Truncated;
+        return Err(DecodeError::Truncated);
     }
-    Decoded::Found(
+    Ok((
         after_90_instruction(byte_at(bytes, 1), word_at(bytes, 2)),
         length,
-    )
+    ))
 }

@@ -7,10 +7,10 @@ use mathlib.Core.Option.{some}
 use native.Mathlib.Nat.{zero-add, add-zero}
 use native.Mathlib.Omega.{arith}
 use borrow.Author.Tests.{leb-false}
+use Rattle.std.specs.Prelude.{Ok}
 use Rattle.numbers.specs.Computed.{counting}
 use Rattle.stm8.specs.Effects.{jump_target, effect}
 use Rattle.stm8.specs.declared.Instruction.{Instruction}
-use Rattle.stm8.specs.declared.Decoded.TheVariants.{Found}
 use Rattle.image.specs.Image.{base_of, count_of}
 use Rattle.image.specs.Rules.{ImageRules}
 use Rattle.image.proofs.Layouts.{begins_before_end}
@@ -41,7 +41,7 @@ module _ (image : List ℕ) (layout : ImageRules image) (ahead : some_jumps_back
   unfolding some_jumps_back
   no_routine r listed = rw (zero-add r) at (none_counted (routine_jumps_back image) (count_of image) 0 r ahead listed)
 
-  pub jumps_ahead : {r o n address : ℕ} {i : Instruction} → r < count_of image → Start image r o → instruction_at image r o ≡ Found i n →
+  pub jumps_ahead : {r o n address : ℕ} {i : Instruction} → r < count_of image → Start image r o → instruction_at image r o ≡ Ok (i, n) →
       jump_target (base_of image + (o + n)) (effect i).flow ≡ some address → base_of image + o < address
   jumps_ahead {r} {o} {n} {i = i} listed s f jump =
       let e : Located = record { offset = o; instruction = i; size = n } in

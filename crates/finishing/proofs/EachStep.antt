@@ -6,10 +6,10 @@ use mathlib.Core.Logic.{⊎_elim}
 use mathlib.Core.List.{List, ◌∷◌}
 use mathlib.Core.Option.{some}
 use native.Mathlib.Omega.{arith}
+use Rattle.std.specs.Prelude.{Ok}
 use Rattle.numbers.specs.Lists.{Bytes}
 use Rattle.numbers.proofs.Bytes.{bytes_dropped}
 use Rattle.stm8.specs.Effects.{jump_target, call_target, effect}
-use Rattle.stm8.specs.declared.Decoded.TheVariants.{Found}
 use Rattle.stm8.specs.declared.Flow.{Flow}
 use Rattle.stm8.specs.declared.Flow.TheVariants.{Next, Branch, Jump, Call, CallRelative, Return}
 use Rattle.image.specs.declared.Limits.{Limits}
@@ -99,7 +99,7 @@ module _ (image : List ℕ) (bytes : Bytes image) (limits : Limits) (depth need 
       let k = (rules.routines r listed).starts s in
       let made = made_step image limits regs memory m.answer in
       let offset : regs.pc - base_of image ≡ o = omega arith in
-      let found : instruction_in image (regs.pc - base_of image) ≡ Found k.instruction k.size =
+      let found : instruction_in image (regs.pc - base_of image) ≡ Ok (k.instruction, k.size) =
       rw offset (found_in_code image r (bytes_dropped (code_at image) image bytes) (end_inside image r listed) o k.found) in
       let same = same_found made.found found in
       let fed-same = same_found m.found found in

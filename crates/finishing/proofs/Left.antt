@@ -7,9 +7,9 @@ use mathlib.Core.Option.{some}
 use native.Mathlib.Decide.{dec_le}
 use native.Mathlib.Omega.{arith}
 use lib.ListN.{get_or}
+use Rattle.std.specs.Prelude.{Ok}
 use Rattle.stm8.specs.Effects.{call_target, effect}
 use Rattle.stm8.specs.declared.Instruction.{Instruction}
-use Rattle.stm8.specs.declared.Decoded.TheVariants.{Found}
 use Rattle.image.specs.Image.{base_of, count_of, start_of, end_of}
 use Rattle.image.specs.Rules.{ImageRules}
 use Rattle.image.proofs.Layouts.{begins_before_end}
@@ -32,7 +32,7 @@ module _ (image : List ℕ) (layout : ImageRules image) (r : ℕ) (listed : r < 
   below_end : {o : ℕ} → Start image r o → o < end_of image r
   below_end s = start_high image r (begins_before_end image layout r listed) s
 
-  pub left_behind : {o n : ℕ} {i : Instruction} → Start image r o → instruction_at image r o ≡ Found i n → left_in image r (o + n) + 1 ≤ left_in image r o
+  pub left_behind : {o n : ℕ} {i : Instruction} → Start image r o → instruction_at image r o ≡ Ok (i, n) → left_in image r (o + n) + 1 ≤ left_in image r o
   left_behind s f = omega (arith, left_found image (turns_of image r) r (below_end s) f)
 
   -- from a start on to another one not more
@@ -44,13 +44,13 @@ module _ (image : List ℕ) (layout : ImageRules image) (r : ℕ) (listed : r < 
       (λ gt. let same : o ≡ p + n = omega (arith, next_start image r t f s (omega arith)) in rw same (omega arith))
 
   -- and to a later one at least 1 less
-  pub left_later : {o n to : ℕ} {i : Instruction} → Start image r o → instruction_at image r o ≡ Found i n → Start image r to → o < to →
+  pub left_later : {o n to : ℕ} {i : Instruction} → Start image r o → instruction_at image r o ≡ Ok (i, n) → Start image r to → o < to →
       left_in image r to + 1 ≤ left_in image r o
   left_later s f there h =
       let past = next_start image r s f there h in
       omega (arith, left_behind s f, left_ahead (follows s f (omega (arith, below_end there))) there past)
 
-  pub left_call : {o n address k : ℕ} {i : Instruction} → Start image r o → instruction_at image r o ≡ Found i n →
+  pub left_call : {o n address k : ℕ} {i : Instruction} → Start image r o → instruction_at image r o ≡ Ok (i, n) →
       call_target (base_of image + (o + n)) (effect i).flow ≡ some address → Callee image r address k →
       left_in image r o ≡ 1 + turn_of image k + left_in image r (o + n)
   left_call {k = k} s f calls c =

@@ -6,11 +6,11 @@ use mathlib.Core.List.{List}
 use native.Mathlib.Omega.{arith}
 use lib.ListN.{length}
 use borrow.Author.Tests.{eq-eqb, ne_eqb}
+use Rattle.std.specs.Prelude.{Ok}
 use Rattle.numbers.proofs.Checking.{first_pass, under_pass, differ_pass}
 use Rattle.numbers.proofs.Folding.{◌&◌}
 use Rattle.stm8.specs.Effects.{effect}
 use Rattle.stm8.specs.declared.Instruction.{Instruction}
-use Rattle.stm8.specs.declared.Decoded.TheVariants.{Found}
 use Rattle.image.specs.declared.Limits.{Limits}
 use Rattle.image.specs.Image.{base_of}
 use Rattle.code.specs.Code.{instruction_in}
@@ -56,7 +56,7 @@ module _ (image : List ℕ) (limits : Limits) (regs : Registers) (memory : List 
     finished_fed e = rw (valid, eq-eqb regs.pc 0 e)
 
     module _ (on : regs.pc ≡ 0 → ⊥) (inside : pc_trap image regs.pc ≡ 0) (i : Instruction) (n : ℕ)
-        (found : instruction_in image (regs.pc - base_of image) ≡ Found i n) where
+        (found : instruction_in image (regs.pc - base_of image) ≡ Ok (i, n)) where
       made_fed : feeds ≡ flow (effect i).flow (regs.pc + n)
       unfolding fed_to
       made_fed = rw (valid, ne_eqb regs.pc 0 on, inside, found)
@@ -132,7 +132,7 @@ module _ (image : List ℕ) (limits : Limits) (depth need : ℕ → ℕ) (code :
           let inside = k.inside in
           let low = code.areas.stack_low in
           let offset : regs.pc - base_of image ≡ y.at.offset = omega arith in
-          let found : instruction_in image (regs.pc - base_of image) ≡ Found k.instruction k.size = rw offset k.found in
+          let found : instruction_in image (regs.pc - base_of image) ≡ Ok (k.instruction, k.size) = rw offset k.found in
           let sp_in : sp_trap limits regs.sp ≡ 0 = under_pass _ _ 21 (omega arith) & under_pass _ _ 21 (omega arith) in
           let pc_in : pc_trap image regs.pc ≡ 0 = under_pass _ _ 22 (omega arith) & under_pass _ _ 22 (omega arith) in
           let is = step_makes image limits regs memory valid (on_code y) pc_in k.instruction k.size found sp_in (rw next_is done.0) in

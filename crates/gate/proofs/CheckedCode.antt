@@ -5,10 +5,10 @@ use mathlib.Core.Option.{some}
 use mathlib.Core.Bool.{true}
 use mathlib.Core.List.{List}
 use native.Mathlib.Omega.{arith}
+use Rattle.std.specs.Prelude.{Ok}
 use Rattle.stm8.specs.Effects.{call_target, effect}
 use Rattle.stm8.proofs.EffectLaws.{by_call}
 use Rattle.stm8.specs.declared.Instruction.{Instruction}
-use Rattle.stm8.specs.declared.Decoded.TheVariants.{Found}
 use Rattle.stm8.specs.declared.Flow.{Flow}
 use Rattle.image.specs.declared.Limits.{Limits}
 use Rattle.image.specs.Image.{base_of, count_of, size_of, start_of}
@@ -25,8 +25,8 @@ pub record CheckedAt (image : List ℕ) (limits : Limits) (depth need : ℕ → 
   pub inside : o < size_of image
   pub instruction : Instruction
   pub size : ℕ
-  pub stands : instruction_at image r o ≡ Found instruction size
-  pub found : instruction_in image o ≡ Found instruction size
+  pub stands : instruction_at image r o ≡ Ok (instruction, size)
+  pub found : instruction_in image o ≡ Ok (instruction, size)
   pub rules : InstructionRules image limits r (StartAt image depth r) o (depth o) instruction size
   pub covered : {v : ℕ} → InstructionUse image need r (base_of image + (o + size)) (depth o) (effect instruction) v → v ≤ need r
 
@@ -48,7 +48,7 @@ pub record Resumes (image : List ℕ) (depth need : ℕ → ℕ) (r c o n : ℕ)
   pub covered : depth o + 2 + need r ≤ need c
 
 module _ (image : List ℕ) (limits : Limits) (depth need : ℕ → ℕ) (code : CheckedCode image limits depth need) where
-  pub resumes : {r c o n : ℕ} {i : Instruction} → r < count_of image → c < count_of image → Start image c o → instruction_at image c o ≡ Found i n →
+  pub resumes : {r c o n : ℕ} {i : Instruction} → r < count_of image → c < count_of image → Start image c o → instruction_at image c o ≡ Ok (i, n) →
       call_target (base_of image + (o + n)) (effect i).flow ≡ some (base_of image + start_of image r) → Resumes image depth need r c o n
   resumes {r} {c} {o} {n} listed inside start found call =
       let k = code.at inside start in

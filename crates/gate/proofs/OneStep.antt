@@ -8,6 +8,7 @@ use mathlib.Core.List.{List, ◌∷◌}
 use native.Mathlib.Omega.{arith}
 use lib.ListN.{length}
 use borrow.Author.Tests.{lt-ltb}
+use Rattle.std.specs.Prelude.{Ok}
 use Rattle.numbers.specs.Folds.{first_in}
 use Rattle.numbers.specs.Words.{word_at}
 use Rattle.numbers.proofs.Checking.{under_pass, unless_pass}
@@ -16,7 +17,6 @@ use Rattle.stm8.specs.Effects.{relative, jump_target, call_target, effect, is_ca
 use Rattle.stm8.specs.declared.Place.{Place}
 use Rattle.stm8.specs.declared.Place.TheVariants.{Nowhere}
 use Rattle.stm8.specs.declared.Instruction.{Instruction}
-use Rattle.stm8.specs.declared.Decoded.TheVariants.{Found}
 use Rattle.stm8.specs.declared.Flow.{Flow}
 use Rattle.stm8.specs.declared.Flow.TheVariants.{Next, Branch, Jump, Call, CallRelative, Return}
 use Rattle.stm8.specs.declared.Effect.{Effect}
@@ -97,7 +97,7 @@ module _ (image : List ℕ) (limits : Limits) (depth : ℕ → ℕ) (total : ℕ
 
   -- it calls
   enters : (regs' : Registers) (memory' : List ℕ) (callee n : ℕ) (i : Instruction) → callee < count_of image → Start image r o →
-      instruction_at image r o ≡ Found i n → call_target (base_of image + (o + n)) (effect i).flow ≡ some (base_of image + start_of image callee) →
+      instruction_at image r o ≡ Ok (i, n) → call_target (base_of image + (o + n)) (effect i).flow ≡ some (base_of image + start_of image callee) →
       depth (start_of image callee) ≡ 0 → regs'.pc ≡ base_of image + start_of image callee → regs'.sp + 2 ≡ regs.sp →
       word_at memory' (regs'.sp + 1) ≡ base_of image + (o + n) →
       Agree limits (regs.sp + depth o) memory memory' → Unchanged limits total memory memory' →

@@ -1,10 +1,9 @@
 -- A good point: where steps and runs of an accepted image can go on from, with the book of calls that they go on with. Depths are those at starts.
-use Rattle.std.specs.Prelude.{ℕ, ◌+◌, ◌-◌, ◌<◌, ◌≤◌, ◌≡◌, true, false, List, [], ◌∷◌, get_or}
+use Rattle.std.specs.Prelude.{ℕ, ◌+◌, ◌-◌, ◌<◌, ◌≤◌, ◌≡◌, true, false, List, [], ◌∷◌, get_or, Ok}
 use Rattle.std.proofs.Math.Option.{some}
 use Rattle.numbers.specs.Words.{word_at}
 use Rattle.stm8.specs.Effects.{call_target, effect}
 use Rattle.stm8.specs.declared.Instruction.{Instruction}
-use Rattle.stm8.specs.declared.Decoded.TheVariants.{Found}
 use Rattle.image.specs.declared.Limits.{Limits}
 use Rattle.image.specs.Image.{base_of, count_of, start_of, main_of}
 use Rattle.execution.specs.Performing.{made}
@@ -18,7 +17,7 @@ use Rattle.gate.specs.Guarantee.{AtStart}
 -- The callers of routine r, whose return address lies at f + 1 and f + 2, and the book of calls that goes with them, the last call's address first.
 pub data Callers (image : List ℕ) (limits : Limits) (depth : ℕ → ℕ) : ℕ → ℕ → List ℕ → Type 0 where
   -- it is the address after a call to r; past the caller's depth there lies the caller's own return address, and so on
-  called : {r c o n f : ℕ} {i : Instruction} {book : List ℕ} → c < count_of image → Start image c o → instruction_at image c o ≡ Found i n →
+  called : {r c o n f : ℕ} {i : Instruction} {book : List ℕ} → c < count_of image → Start image c o → instruction_at image c o ≡ Ok (i, n) →
       call_target (base_of image + (o + n)) (effect i).flow ≡ some (base_of image + start_of image r) →
       Callers image limits depth c (f + 2 + depth o) book → Callers image limits depth r f ((base_of image + (o + n)) ∷ book)
   -- down to main, whose return bytes are at the very top
@@ -59,7 +58,7 @@ with_memory p memory = record { state = record { registers = p.state.registers; 
 pub record MakesStep (image : List ℕ) (limits : Limits) (p : Point) : Type 0 where
   pub instruction : Instruction
   pub size : ℕ
-  pub found : instruction_in image (p.state.registers.pc - base_of image) ≡ Found instruction size
+  pub found : instruction_in image (p.state.registers.pc - base_of image) ≡ Ok (instruction, size)
   pub is : stepped image limits p.state.registers p.state.memory ≡
       made image p.state.registers p.state.memory (p.state.registers.pc + size) instruction
   pub answer : (stepped image limits p.state.registers p.state.memory).0.answer ≡ Made

@@ -1,11 +1,10 @@
 -- A list of steps and runs, the book of calls that says which call a return belongs to, and the history of a list.
-use Rattle.std.specs.Prelude.{ℕ, zero, suc, ◌+◌, ◌-◌, Bool, true, false, cond, List, [], ◌∷◌, ◌++◌, eqb}
+use Rattle.std.specs.Prelude.{ℕ, zero, suc, ◌+◌, ◌-◌, Bool, true, false, cond, List, [], ◌∷◌, ◌++◌, eqb, Ok, Err}
 use Rattle.std.proofs.Math.Option.{Option, none, some}
+use Rattle.stm8.specs.Decoding.{Decoded}
 use Rattle.stm8.specs.Effects.{effect}
 use Rattle.stm8.specs.declared.Flow.{Flow}
 use Rattle.stm8.specs.declared.Flow.TheVariants.{Next, Branch, Jump, Call, CallRelative, Return}
-use Rattle.stm8.specs.declared.Decoded.{Decoded}
-use Rattle.stm8.specs.declared.Decoded.TheVariants.{Found, Outside, Truncated}
 use Rattle.image.specs.declared.Limits.{Limits}
 use Rattle.image.specs.Image.{base_of}
 use Rattle.code.specs.Code.{instruction_in}
@@ -75,9 +74,8 @@ pub data Fed : Type 0 where
   flow : Flow → ℕ → Fed
 
 abbrev pub flow_in : ℕ → Decoded → Fed
-flow_in pc (Found i n) = flow (effect i).flow (pc + n)
-flow_in pc Outside = nothing
-flow_in pc Truncated = nothing
+flow_in pc (Ok (i, n)) = flow (effect i).flow (pc + n)
+flow_in pc (Err e) = nothing
 
 unfoldable pub fed_to : Given → State → Fed
 fed_to g s =

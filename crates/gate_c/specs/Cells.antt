@@ -1,5 +1,5 @@
 -- What stands in the cells of a C caller's arrays.
-use Rattle.std.specs.Prelude.{ℕ, ◌+◌, ◌%◌, ◌≡◌, List, [], ◌∷◌, ◌++◌, length, get_or, drop, replicate}
+use Rattle.std.specs.Prelude.{ℕ, ◌+◌, ◌%◌, ◌≡◌, List, [], ◌∷◌, ◌++◌, length, get_or, drop, replicate, Ok, Err}
 use Rattle.image.specs.declared.Area.{Area}
 use Rattle.image.specs.declared.Limits.{Limits}
 use Rattle.rules.specs.Outcome.{values_of}
@@ -15,9 +15,8 @@ use Rattle.resuming.specs.Resuming.{Resumes}
 use Rattle.resuming.specs.Values.{resume_number, resume_offset}
 use Rattle.resuming.specs.declared.Resumed.{Resumed}
 use Rattle.execution.specs.declared.Registers.{Registers}
+use Rattle.stm8.specs.Decoding.{Decoded}
 use Rattle.stm8.specs.declared.Instruction.{Instruction}
-use Rattle.stm8.specs.declared.Decoded.{Decoded}
-use Rattle.stm8.specs.declared.Decoded.TheVariants.{Found, Outside, Truncated}
 use Rattle.cycles.specs.Timed.{cycles_of}
 use Rattle.disassembly.specs.Text.{text}
 
@@ -64,17 +63,15 @@ record_cells r =
 
 -- the length of what was decoded, and its text at an address, with 0 in every cell after it
 abbrev pub decoded_length : Decoded → ℕ
-decoded_length (Found i n) = n
-decoded_length Outside = 0
-decoded_length Truncated = 0
+decoded_length (Ok (i, n)) = n
+decoded_length (Err e) = 0
 
 abbrev pub instruction_text : ℕ → Instruction → List ℕ
 instruction_text address i = text address i ++ drop (length (text address i)) (replicate 24 0)
 
 abbrev pub text_cells : ℕ → Decoded → List ℕ
-text_cells address (Found i n) = instruction_text address i
-text_cells address Outside = replicate 24 0
-text_cells address Truncated = replicate 24 0
+text_cells address (Ok (i, n)) = instruction_text address i
+text_cells address (Err e) = replicate 24 0
 
 -- its cycles, not taken and taken
 abbrev pub cycle_cells : Decoded → List ℕ

@@ -6,10 +6,10 @@ use mathlib.Core.List.{List, [], ◌++◌, flat_map}
 use native.Mathlib.Omega.{arith}
 use lib.Dec.{eqb, ltb}
 use lib.ListN.{length, get_or, length-append}
+use Rattle.std.specs.Prelude.{Ok, Err}
+use Rattle.stm8.specs.Decoding.{Decoded}
 use Rattle.numbers.specs.Ascii.{ascii}
 use Rattle.numbers.specs.Computed.{counting}
-use Rattle.stm8.specs.declared.Decoded.{Decoded}
-use Rattle.stm8.specs.declared.Decoded.TheVariants.{Found, Outside, Truncated}
 use Rattle.notation.specs.Notation.{word_digits}
 use Rattle.disassembly.proofs.Sizes.{text_size}
 use Rattle.image.specs.Image.{base_of, size_of, limits_of}
@@ -49,9 +49,8 @@ pub starts_room : (at size : ℕ) (v : Verdict) (before after : List ℕ) → Wr
 starts_room at size v before after w long few = omega (arith, w.end, w.room, verdict_line_size v)
 
 pub text_at_size : (address : ℕ) (d : Decoded) → length (text_at address d) ≤ 23
-text_at_size address (Found i n) = (text_size address i).most
-text_at_size address Outside = omega arith
-text_at_size address Truncated = omega arith
+text_at_size address (Ok (i, n)) = (text_size address i).most
+text_at_size address (Err e) = omega arith
 
 pub front_size : (address depth : ℕ) → length (word_digits address ++ ascii " " ++ decimal depth ++ ascii " ") ≤ 11
 front_size address depth = simp length-append (omega (arith, decimal_size depth))

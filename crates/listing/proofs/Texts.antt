@@ -4,9 +4,9 @@ use mathlib.Core.Path.{◌≡◌}
 use mathlib.Core.Logic.{⊎_elim}
 use mathlib.Core.List.{List}
 use lib.ListN.{get_or}
+use Rattle.std.specs.Prelude.{Ok}
 use Rattle.numbers.specs.Lists.{Bytes}
 use Rattle.stm8.specs.declared.Instruction.{Instruction}
-use Rattle.stm8.specs.declared.Decoded.TheVariants.{Found}
 use Rattle.image.specs.Image.{code_of, size_of}
 use Rattle.image.specs.declared.Limits.{Limits}
 use Rattle.acceptance.specs.Check.{checked}
@@ -19,7 +19,7 @@ use Rattle.code.proofs.Starts.{found_in_code}
 module _ (image : List ℕ) (limits : Limits) (marks : List ℕ) (bytes : Bytes (code_of image)) where
   pub start_text : {need count : ℕ} → (checked image limits marks).0 ≡ Accepted need count → (offset : ℕ) → offset < size_of image →
       (get_or (checked image limits marks).1 offset 0 ≡ 0 → ⊥) →
-      (i : Instruction) × (size : ℕ) × (instruction_in image offset ≡ Found i size)
+      (i : Instruction) × (size : ℕ) × (instruction_in image offset ≡ Ok (i, size))
   start_text e offset below some =
       let sound = accept_sound image limits marks e in
       ⊎_elim (λ none. absurd (some none))

@@ -1,10 +1,9 @@
 -- What document 01's verdict program prints.
-use Rattle.std.specs.Prelude.{ℕ, ◌+◌, ◌-◌, ◌*◌, cond, eqb, ltb, length, get_or, drop}
+use Rattle.std.specs.Prelude.{ℕ, ◌+◌, ◌-◌, ◌*◌, cond, eqb, ltb, length, get_or, drop, Ok, Err}
 use mathlib.Core.List.{List, [], ◌∷◌, ◌++◌, flat_map}
+use Rattle.stm8.specs.Decoding.{Decoded}
 use Rattle.numbers.specs.Ascii.{ascii}
 use Rattle.numbers.specs.Computed.{counting}
-use Rattle.stm8.specs.declared.Decoded.{Decoded}
-use Rattle.stm8.specs.declared.Decoded.TheVariants.{Found, Outside, Truncated}
 use Rattle.notation.specs.Notation.{word_digits}
 use Rattle.disassembly.specs.Text.{text}
 use Rattle.disassembly.specs.declared.Written.{Written}
@@ -26,9 +25,8 @@ verdict_line (Refused number offset) = ascii "refused " ++ decimal number ++ asc
 
 -- the text of what decodes at an address; at a start of an accepted image that is an instruction, which is a theorem
 abbrev pub text_at : ℕ → Decoded → List ℕ
-text_at address (Found i n) = text address i
-text_at address Outside = []
-text_at address Truncated = []
+text_at address (Ok (i, n)) = text address i
+text_at address (Err e) = []
 
 -- address, depth, text
 unfoldable pub start_line : ℕ → ℕ → Decoded → List ℕ

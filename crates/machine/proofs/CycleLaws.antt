@@ -5,13 +5,13 @@ use mathlib.Core.List.{List}
 use native.Mathlib.Numerals.{add-one}
 use native.Mathlib.Nat.{add-zero}
 use native.Mathlib.Omega.{arith}
+use Rattle.std.specs.Prelude.{Ok, Err}
 use Rattle.numbers.specs.Folds.{total}
+use Rattle.stm8.specs.Decoding.{Decoded}
 use Rattle.stm8.proofs.CycleLaws.{charged_most}
 use Rattle.stm8.specs.declared.Condition.TheVariants.{Jrf}
 use Rattle.stm8.specs.declared.Instruction.{Instruction}
 use Rattle.stm8.specs.declared.Instruction.TheVariants.{Jump}
-use Rattle.stm8.specs.declared.Decoded.{Decoded}
-use Rattle.stm8.specs.declared.Decoded.TheVariants.{Found, Outside, Truncated}
 use Rattle.image.specs.declared.Limits.{Limits}
 use Rattle.image.specs.Image.{base_of}
 use Rattle.code.specs.Code.{instruction_in}
@@ -27,7 +27,7 @@ use Rattle.machine.proofs.StepLaws.{step_refused, step_valid_lem}
 
 -- where an instruction stands at PC, they are its own
 pub at_found : (image : List ℕ) (regs : Registers) (memory : List ℕ) (i : Instruction) (n : ℕ) →
-    instruction_in image (regs.pc - base_of image) ≡ Found i n → cycles_at image regs memory ≡ instruction_cycles image memory regs (regs.pc + n) i
+    instruction_in image (regs.pc - base_of image) ≡ Ok (i, n) → cycles_at image regs memory ≡ instruction_cycles image memory regs (regs.pc + n) i
 unfolding cycles_at
 at_found image regs memory i n e = ap (decoded_cycles image regs memory) e
 
@@ -39,9 +39,8 @@ never_taken image memory regs next n = refl
 -- four at the most
 decoded_most : (image : List ℕ) (regs : Registers) (memory : List ℕ) (d : Decoded) → decoded_cycles image regs memory d ≤ 4
 unfolding instruction_cycles
-decoded_most image regs memory (Found i n) = charged_most i (computed image memory regs (regs.pc + n) i).taken
-decoded_most image regs memory Outside = omega arith
-decoded_most image regs memory Truncated = omega arith
+decoded_most image regs memory (Ok (i, n)) = charged_most i (computed image memory regs (regs.pc + n) i).taken
+decoded_most image regs memory (Err e) = omega arith
 
 pub at_most : (image : List ℕ) (regs : Registers) (memory : List ℕ) → cycles_at image regs memory ≤ 4
 unfolding cycles_at

@@ -3,8 +3,10 @@ use Prim.Native.Nat.{ℕ, zero, suc, ◌+◌, ◌-◌}
 use mathlib.Core.Path.{◌≡◌, refl, ap, ◌∙◌}
 use mathlib.Core.List.{List}
 use lib.Dec.{eqb}
+use Rattle.std.specs.Prelude.{Ok, Err}
 use Rattle.numbers.specs.Checks.{first}
 use Rattle.numbers.proofs.Checking.{by_test}
+use Rattle.stm8.specs.Decoding.{Decoded}
 use Rattle.stm8.specs.Effects.{effect}
 use Rattle.stm8.specs.declared.Register.{Register}
 use Rattle.stm8.specs.declared.Register.TheVariants.{X, Y}
@@ -12,8 +14,6 @@ use Rattle.stm8.specs.declared.Operand.{Operand}
 use Rattle.stm8.specs.declared.Operand.TheVariants.{Accumulator, Immediate, ImmediateWord, Short, Long, Indexed, Sp}
 use Rattle.stm8.specs.declared.Instruction.{Instruction}
 use Rattle.stm8.specs.declared.Instruction.TheVariants as I
-use Rattle.stm8.specs.declared.Decoded.{Decoded}
-use Rattle.stm8.specs.declared.Decoded.TheVariants.{Found, Outside, Truncated}
 use Rattle.arithmetic.specs.declared.Flagged.{Flagged}
 use Rattle.arithmetic.specs.Flags.{rest, Keeps}
 use Rattle.arithmetic.proofs.Kept.{rest_nz}
@@ -92,9 +92,8 @@ module _ (image : List ℕ) (limits : Limits) where
 
     decoded_keeps : (d : Decoded) → KeptIn (decoded_step image limits regs memory d)
     unfolding decoded_step performed made KeptIn
-    decoded_keeps Outside = refl
-    decoded_keeps Truncated = refl
-    decoded_keeps (Found i n) =
+    decoded_keeps (Err e) = refl
+    decoded_keeps (Ok (i, n)) =
         by_test KeptIn (eqb (effect_trap limits regs.sp (regs.pc + n) (effect i)) 0)
         (λ t. computed_keeps image memory regs (regs.pc + n) i)
         (λ t. refl)

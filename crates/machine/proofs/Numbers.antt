@@ -7,16 +7,16 @@ use native.Mathlib.Omega.{arith}
 use lib.Dec.{eqb, ltb}
 use lib.ListN.{length}
 use borrow.Author.Tests.{eqb-true, eqb-false}
+use Rattle.std.specs.Prelude.{Ok, Err}
 use Rattle.numbers.specs.Checks.{first}
 use Rattle.numbers.specs.Folds.{first_in}
 use Rattle.numbers.proofs.Checking.{by_test}
 use Rattle.numbers.proofs.Numbering.{Numbered, pass, fails, not_zero, tested, ◌then◌, under_numbered, unless_numbered, differ_numbered}
+use Rattle.stm8.specs.Decoding.{Decoded}
 use Rattle.stm8.specs.Effects.{bytes_wide, effect, is_call}
 use Rattle.stm8.specs.declared.Place.{Place}
 use Rattle.stm8.specs.declared.Place.TheVariants.{Nowhere, Direct, OnStack, Pushed}
 use Rattle.stm8.specs.declared.Effect.{Effect}
-use Rattle.stm8.specs.declared.Decoded.{Decoded}
-use Rattle.stm8.specs.declared.Decoded.TheVariants.{Found, Outside, Truncated}
 use Rattle.image.specs.declared.Limits.{Limits}
 use Rattle.image.specs.Access.{granted}
 use Rattle.image.specs.Image.{base_of}
@@ -114,9 +114,8 @@ module _ (image : List ℕ) (limits : Limits) (regs : Registers) (memory : List 
 
   decoded_unrefused : (d : Decoded) → Unrefused (decoded_step image limits regs memory d)
   unfolding decoded_step performed made
-  decoded_unrefused Outside = (omega arith, omega arith)
-  decoded_unrefused Truncated = (omega arith, omega arith)
-  decoded_unrefused (Found i n) =
+  decoded_unrefused (Err e) = (omega arith, omega arith)
+  decoded_unrefused (Ok (i, n)) =
       by_test Unrefused (eqb (effect_trap limits regs.sp (regs.pc + n) (effect i)) 0)
       (λ t. tt)
       (λ t. not_zero (effect_numbered limits regs.sp (regs.pc + n) (effect i)) (eqb-false _ _ t))

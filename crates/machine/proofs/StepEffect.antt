@@ -9,17 +9,18 @@ use native.Mathlib.Nat.{mod-eq_of_lt}
 use lib.Dec.{eqb}
 use lib.ListN.{length}
 use borrow.Author.Tests.{eqb-true, ltb-true}
+use Rattle.std.specs.Prelude.{Ok, Err}
 use Rattle.numbers.specs.Checks.{first}
 use Rattle.numbers.proofs.Checking.{by_test, first_zero, under_zero, differ_zero, unless_zero}
 use Rattle.numbers.proofs.Folding.{passed}
+use Rattle.stm8.specs.Decoding.{Decoded}
 use Rattle.stm8.specs.Effects.{effect, is_call}
 use Rattle.stm8.specs.declared.Width.TheVariants.{Word}
 use Rattle.stm8.specs.declared.Flow.{Flow}
 use Rattle.stm8.specs.declared.Flow.TheVariants.{Next, Branch, Jump, Call, CallRelative, Return}
 use Rattle.stm8.specs.declared.Effect.{Effect}
 use Rattle.stm8.specs.declared.Instruction.{Instruction}
-use Rattle.stm8.specs.declared.Decoded.{Decoded}
-use Rattle.stm8.specs.declared.Decoded.TheVariants.{Found, Outside, Truncated}
+use Rattle.stm8.specs.declared.DecodeError.TheVariants.{Outside, Truncated}
 use Rattle.image.specs.declared.Limits.{Limits}
 use Rattle.image.specs.Image.{base_of, layout_of}
 use Rattle.image.specs.Rules.{LimitsRules}
@@ -144,7 +145,7 @@ module _ (image : List ℕ) (limits : Limits) (regs : Registers) (memory : List 
   trap_keeps n = inl (record { answer = not_made_trap n; finished = λ h. absurd (not_finished_trap n h); is = refl })
 
   module _ (valid : step_refusal image limits memory ≡ 0) where
-    made_way : (i : Instruction) (n : ℕ) → instruction_in image (regs.pc - base_of image) ≡ Found i n →
+    made_way : (i : Instruction) (n : ℕ) → instruction_in image (regs.pc - base_of image) ≡ Ok (i, n) →
         effect_trap limits regs.sp (regs.pc + n) (effect i) ≡ 0 → Way (made image regs memory (regs.pc + n) i)
     unfolding made
     made_way i n found allowed =
@@ -164,9 +165,9 @@ module _ (image : List ℕ) (limits : Limits) (regs : Registers) (memory : List 
 
     decoded_way : (d : Decoded) → instruction_in image (regs.pc - base_of image) ≡ d → Way (decoded_step image limits regs memory d)
     unfolding decoded_step performed
-    decoded_way Outside e = trap_keeps 23
-    decoded_way Truncated e = trap_keeps 22
-    decoded_way (Found i n) e =
+    decoded_way (Err Outside) e = trap_keeps 23
+    decoded_way (Err Truncated) e = trap_keeps 22
+    decoded_way (Ok (i, n)) e =
         by_test Way (eqb (effect_trap limits regs.sp (regs.pc + n) (effect i)) 0) (λ t. made_way i n e (eqb-true _ _ t)) (λ t. trap_keeps _)
 
     valid_way : Way (step_valid image limits regs memory)

@@ -7,14 +7,14 @@ use native.Mathlib.Omega.{arith}
 use lib.Dec.{eqb}
 use lib.ListN.{length}
 use borrow.Author.Tests.{ne_eqb}
+use Rattle.std.specs.Prelude.{Ok, Err}
 use Rattle.numbers.specs.Checks.{first, under}
 use Rattle.numbers.proofs.Checking.{first_zero, under_zero}
 use Rattle.numbers.proofs.Folding.{passed}
+use Rattle.stm8.specs.Decoding.{Decoded}
 use Rattle.stm8.specs.Effects.{effect}
 use Rattle.stm8.specs.declared.Effect.{Effect}
 use Rattle.stm8.specs.declared.Instruction.{Instruction}
-use Rattle.stm8.specs.declared.Decoded.{Decoded}
-use Rattle.stm8.specs.declared.Decoded.TheVariants.{Found, Outside, Truncated}
 use Rattle.image.specs.declared.Limits.{Limits}
 use Rattle.image.specs.declared.Layout.{Layout}
 use Rattle.image.specs.declared.Validated.TheVariants as Validated
@@ -61,25 +61,24 @@ module _ (image : List ℕ) (limits : Limits) (regs : Registers) (memory : List 
 
   -- what was decoded is an instruction
   pub found : (i : Instruction) (n : ℕ) →
-      decoded_step image limits regs memory (Found i n) ≡
+      decoded_step image limits regs memory (Ok (i, n)) ≡
       performed image limits regs memory (regs.pc + n) i
   unfolding decoded_step
   found i n = refl
 
   -- and is made where no trap is due
   pub makes : (i : Instruction) (n : ℕ) → effect_trap limits regs.sp (regs.pc + n) (effect i) ≡ 0 →
-      decoded_step image limits regs memory (Found i n) ≡ made image regs memory (regs.pc + n) i
+      decoded_step image limits regs memory (Ok (i, n)) ≡ made image regs memory (regs.pc + n) i
   unfolding decoded_step performed
   makes i n none = rw none
 
 -- what gives no instruction
 pub undecoded : (image : List ℕ) (limits : Limits) (regs : Registers) (memory : List ℕ) (d : Decoded) →
-    ((i : Instruction) (n : ℕ) → d ≡ Found i n → ⊥) →
+    ((i : Instruction) (n : ℕ) → d ≡ Ok (i, n) → ⊥) →
     decoded_step image limits regs memory d ≡ result (Trap (decoding_trap d)) regs memory
 unfolding decoded_step
-undecoded image limits regs memory (Found i n) h = absurd (h i n refl)
-undecoded image limits regs memory Outside h = refl
-undecoded image limits regs memory Truncated h = refl
+undecoded image limits regs memory (Ok (i, n)) h = absurd (h i n refl)
+undecoded image limits regs memory (Err e) h = refl
 
 -- what validation answers
 module _ (image : List ℕ) (limits : Limits) (memory : List ℕ) where

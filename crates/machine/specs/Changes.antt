@@ -1,11 +1,10 @@
 -- What a made step changes, seen from the effect of its instruction alone: SP, PC and memory. A, X, Y and CC are what the instruction computes.
-use Rattle.std.specs.Prelude.{ℕ, ◌+◌, ◌-◌, ◌≡◌, true, ◌⊎◌, List, [], ◌∷◌, length, get_or}
+use Rattle.std.specs.Prelude.{ℕ, ◌+◌, ◌-◌, ◌≡◌, true, ◌⊎◌, List, [], ◌∷◌, length, get_or, Ok}
 use Rattle.stm8.specs.Effects.{relative, effect, is_call}
 use Rattle.stm8.specs.declared.Flow.{Flow}
 use Rattle.stm8.specs.declared.Flow.TheVariants.{Next, Branch, Jump, Call, CallRelative, Return}
 use Rattle.stm8.specs.declared.Effect.{Effect}
 use Rattle.stm8.specs.declared.Instruction.{Instruction}
-use Rattle.stm8.specs.declared.Decoded.TheVariants.{Found}
 use Rattle.image.specs.Image.{base_of}
 use Rattle.code.specs.Code.{instruction_in}
 use Rattle.storage.specs.Reading.{read_word}
@@ -41,5 +40,5 @@ pub record Changes (image : List ℕ) (next : ℕ) (e : Effect) (regs : Register
 pub record MadeStep (image : List ℕ) (regs : Registers) (memory : List ℕ) (regs' : Registers) (memory' : List ℕ) : Type 0 where
   pub instruction : Instruction
   pub size : ℕ
-  pub found : instruction_in image (regs.pc - base_of image) ≡ Found instruction size
+  pub found : instruction_in image (regs.pc - base_of image) ≡ Ok (instruction, size)
   pub changes : Changes image (regs.pc + size) (effect instruction) regs memory regs' memory'

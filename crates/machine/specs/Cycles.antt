@@ -1,8 +1,7 @@
 -- The cycles of a step, and of a run: their sum over the steps made.
-use Rattle.std.specs.Prelude.{ℕ, zero, suc, ◌+◌, ◌-◌, List, [], ◌∷◌}
+use Rattle.std.specs.Prelude.{ℕ, zero, suc, ◌+◌, ◌-◌, List, [], ◌∷◌, Ok, Err}
+use Rattle.stm8.specs.Decoding.{Decoded}
 use Rattle.numbers.specs.Folds.{total}
-use Rattle.stm8.specs.declared.Decoded.{Decoded}
-use Rattle.stm8.specs.declared.Decoded.TheVariants.{Found, Outside, Truncated}
 use Rattle.image.specs.declared.Limits.{Limits}
 use Rattle.image.specs.Image.{base_of}
 use Rattle.code.specs.Code.{instruction_in}
@@ -14,9 +13,8 @@ use Rattle.machine.specs.Step.{stepped}
 
 -- the cycles of what stands at PC
 abbrev pub decoded_cycles : List ℕ → Registers → List ℕ → Decoded → ℕ
-decoded_cycles image regs memory (Found i n) = instruction_cycles image memory regs (regs.pc + n) i
-decoded_cycles image regs memory Outside = 0
-decoded_cycles image regs memory Truncated = 0
+decoded_cycles image regs memory (Ok (i, n)) = instruction_cycles image memory regs (regs.pc + n) i
+decoded_cycles image regs memory (Err e) = 0
 
 unfoldable pub cycles_at : List ℕ → Registers → List ℕ → ℕ
 cycles_at image regs memory = decoded_cycles image regs memory (instruction_in image (regs.pc - base_of image))

@@ -1,8 +1,8 @@
 -- One step: 17 and 1 to 4, then finished, then the traps in document 01's order, then made.
-use Rattle.std.specs.Prelude.{ℕ, ◌+◌, ◌-◌, ◌≤◌, ◌≡◌, cond, List, eqb, length}
+use Rattle.std.specs.Prelude.{ℕ, ◌+◌, ◌-◌, ◌≤◌, ◌≡◌, cond, List, eqb, length, Ok, Err}
 use Rattle.numbers.specs.Checks.{first, under, differ}
-use Rattle.stm8.specs.declared.Decoded.{Decoded}
-use Rattle.stm8.specs.declared.Decoded.TheVariants.{Found, Outside, Truncated}
+use Rattle.stm8.specs.Decoding.{Decoded}
+use Rattle.stm8.specs.declared.DecodeError.TheVariants.{Outside, Truncated}
 use Rattle.image.specs.declared.Limits.{Limits}
 use Rattle.image.specs.Image.{base_of, size_of}
 use Rattle.image.specs.Validation.{refusal}
@@ -19,15 +19,14 @@ pc_trap image pc = first (under pc (base_of image) 22) (under (base_of image + s
 
 -- 23 outside the set, 22 where the bytes run out
 abbrev pub decoding_trap : Decoded → ℕ
-decoding_trap (Found i n) = 0
-decoding_trap Outside = 23
-decoding_trap Truncated = 22
+decoding_trap (Ok (i, n)) = 0
+decoding_trap (Err Outside) = 23
+decoding_trap (Err Truncated) = 22
 
 -- what stands at PC
 unfoldable pub decoded_step : List ℕ → Limits → Registers → List ℕ → Decoded → Result
-decoded_step image limits regs memory Outside = result (Trap (decoding_trap Outside)) regs memory
-decoded_step image limits regs memory Truncated = result (Trap (decoding_trap Truncated)) regs memory
-decoded_step image limits regs memory (Found i n) = performed image limits regs memory (regs.pc + n) i
+decoded_step image limits regs memory (Err e) = result (Trap (decoding_trap (Err e))) regs memory
+decoded_step image limits regs memory (Ok (i, n)) = performed image limits regs memory (regs.pc + n) i
 
 -- a step that is not refused; where PC is 0 nothing changes
 unfoldable pub step_valid : List ℕ → Limits → Registers → List ℕ → Result

@@ -7,15 +7,15 @@ use native.Mathlib.Omega.{arith}
 use native.Mathlib.Decide.{ℕ_discrete}
 use lib.ListN.{length}
 use borrow.Author.Tests.{ne_eqb}
+use Rattle.std.specs.Prelude.{Ok, Err}
 use Rattle.numbers.specs.Checks.{first, differ}
 use Rattle.numbers.proofs.Checking.{differ_pass}
 use Rattle.numbers.proofs.Folding.{passed}
+use Rattle.stm8.specs.Decoding.{Decoded}
 use Rattle.stm8.specs.Effects.{effect}
 use Rattle.stm8.specs.declared.Place.{Place}
 use Rattle.stm8.specs.declared.Effect.{Effect}
 use Rattle.stm8.specs.declared.Instruction.{Instruction}
-use Rattle.stm8.specs.declared.Decoded.{Decoded}
-use Rattle.stm8.specs.declared.Decoded.TheVariants.{Found, Outside, Truncated}
 use Rattle.image.specs.declared.Limits.{Limits}
 use Rattle.image.specs.Image.{base_of}
 use Rattle.code.specs.Code.{instruction_in}
@@ -114,9 +114,8 @@ made_or_not (Trap n) = inr (not_made_trap n)
 made_or_not (Refused n) = inr (not_made_refused n)
 
 abbrev sp_by : ℕ → Decoded → ℕ
-sp_by sp (Found i n) = sp_after sp (effect i)
-sp_by sp Outside = sp
-sp_by sp Truncated = sp
+sp_by sp (Ok (i, n)) = sp_after sp (effect i)
+sp_by sp (Err e) = sp
 
 module _ (image : List ℕ) (limits : Limits) (regs : Registers) (memory : List ℕ) where
   -- what giving back answers, whatever the step answered: 17 where the memory is not 32,768 bytes, as the step did
@@ -141,7 +140,7 @@ module _ (image : List ℕ) (limits : Limits) (regs : Registers) (memory : List 
 
   -- the record of a made step lists the bytes that the effect of its instruction stores, by SP before and after the step
   pub lists_stored : (stepped image limits regs memory).0.answer ≡ Made → (i : Instruction) (n : ℕ) →
-      instruction_in image (regs.pc - base_of image) ≡ Found i n →
+      instruction_in image (regs.pc - base_of image) ≡ Ok (i, n) →
       listed (recorded image limits regs memory) ≡
       held_at memory (stored_at regs.sp (stepped image limits regs memory).0.registers.sp (effect i).place)
   unfolding recorded overwritten

@@ -4,14 +4,14 @@ use mathlib.Core.Path.{◌≡◌, refl, sym, ap, ◌∙◌}
 use mathlib.Core.List.{List, []}
 use native.Mathlib.Omega.{arith}
 use lib.ListN.{length}
+use Rattle.std.specs.Prelude.{Ok, Err}
+use Rattle.stm8.specs.Decoding.{Decoded}
 use Rattle.stm8.specs.Effects.{effect}
 use Rattle.stm8.specs.declared.Width.{Width}
 use Rattle.stm8.specs.declared.Place.{Place}
 use Rattle.stm8.specs.declared.Place.TheVariants.{Nowhere, Direct, OnStack, Pushed}
 use Rattle.stm8.specs.declared.Effect.{Effect}
 use Rattle.stm8.specs.declared.Instruction.{Instruction}
-use Rattle.stm8.specs.declared.Decoded.{Decoded}
-use Rattle.stm8.specs.declared.Decoded.TheVariants.{Found, Outside, Truncated}
 use Rattle.image.specs.declared.Limits.{Limits}
 use Rattle.image.specs.Image.{base_of, code_at, size_of, layout_of}
 use Rattle.image.specs.Rules.{ImageRules}
@@ -61,17 +61,16 @@ module _ (image : List ℕ) (rules : ImageRules image) (code : ℕ) (at : code �
 -- the record of what stands at PC: of an instruction by its effect, of anything else none
 module _ (regs : Registers) (memory : List ℕ) (r : Record) (d d' : Decoded) (same : d ≡ d') where
   pub by_effect : (e : Effect) (i : Instruction) (n : ℕ) →
-      r ≡ record_of regs memory (stored_at regs.sp (sp_after regs.sp e) e.place) → e ≡ effect i → d ≡ Found i n →
+      r ≡ record_of regs memory (stored_at regs.sp (sp_after regs.sp e) e.place) → e ≡ effect i → d ≡ Ok (i, n) →
       r ≡ record_of regs memory (stored_by regs.sp d')
   by_effect e i n is effects found = rw (← same, found, ← effects) is
 
-  pub by_none : ((i : Instruction) (n : ℕ) → d ≡ Found i n → ⊥) → r ≡ record_of regs memory [] → r ≡ record_of regs memory (stored_by regs.sp d')
+  pub by_none : ((i : Instruction) (n : ℕ) → d ≡ Ok (i, n) → ⊥) → r ≡ record_of regs memory [] → r ≡ record_of regs memory (stored_by regs.sp d')
   by_none other is = is ∙ ap (record_of regs memory) (sym (stored d other) ∙ ap (stored_by regs.sp) same)
     where
-      stored : (d : Decoded) → ((i : Instruction) (n : ℕ) → d ≡ Found i n → ⊥) → stored_by regs.sp d ≡ []
-      stored (Found i n) other = absurd (other i n refl)
-      stored Outside other = refl
-      stored Truncated other = refl
+      stored : (d : Decoded) → ((i : Instruction) (n : ℕ) → d ≡ Ok (i, n) → ⊥) → stored_by regs.sp d ≡ []
+      stored (Ok (i, n)) other = absurd (other i n refl)
+      stored (Err e) other = refl
 
 -- a step is made of an image that follows the rules alone
 made_image : (image : List ℕ) (limits : Limits) (regs : Registers) (memory : List ℕ) → (stepped image limits regs memory).0.answer ≡ Made → ImageRules image

@@ -1,8 +1,7 @@
 -- The record of a step: the registers before it and the bytes of memory that it overwrote.
-use Rattle.std.specs.Prelude.{ℕ, ◌-◌, List, [], ◌∷◌, map, length, get_or}
+use Rattle.std.specs.Prelude.{ℕ, ◌-◌, List, [], ◌∷◌, map, length, get_or, Ok, Err}
+use Rattle.stm8.specs.Decoding.{Decoded}
 use Rattle.stm8.specs.Effects.{effect}
-use Rattle.stm8.specs.declared.Decoded.{Decoded}
-use Rattle.stm8.specs.declared.Decoded.TheVariants.{Found, Outside, Truncated}
 use Rattle.image.specs.declared.Limits.{Limits}
 use Rattle.image.specs.Image.{base_of}
 use Rattle.code.specs.Code.{instruction_in}
@@ -30,9 +29,8 @@ record_of regs memory addresses =
 
 -- where what stands at PC stores, lower address first, by its effect
 abbrev pub stored_by : ℕ → Decoded → List ℕ
-stored_by sp (Found i n) = stored_at sp (sp_after sp (effect i)) (effect i).place
-stored_by sp Outside = []
-stored_by sp Truncated = []
+stored_by sp (Ok (i, n)) = stored_at sp (sp_after sp (effect i)) (effect i).place
+stored_by sp (Err e) = []
 
 -- a step that is not made overwrites nothing
 abbrev pub overwrites : StepAnswer → List ℕ → List ℕ

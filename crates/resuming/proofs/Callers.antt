@@ -6,9 +6,9 @@ use mathlib.Core.Logic.{by_cases}
 use mathlib.Core.List.{List}
 use native.Mathlib.Decide.{ℕ_discrete, dec_lt}
 use native.Mathlib.Omega.{arith}
+use Rattle.std.specs.Prelude.{Ok}
 use Rattle.stm8.specs.Effects.{call_target, effect}
 use Rattle.stm8.specs.declared.Instruction.{Instruction}
-use Rattle.stm8.specs.declared.Decoded.TheVariants.{Found}
 use Rattle.image.specs.declared.Limits.{Limits}
 use Rattle.image.specs.Image.{base_of, count_of, start_of, end_of, main_of}
 use Rattle.image.proofs.Layouts.{begins_before_end}
@@ -43,8 +43,8 @@ module _ (image : List ℕ) (limits : Limits) (depth need : ℕ → ℕ) (code :
       (λ higher. absurd (omega (arith, end_before image r k (omega arith) listed, l.begun))))
 
   -- one instruction of a routine ends at an offset
-  one_start : {r o p n m : ℕ} {i i' : Instruction} → Start image r o → instruction_at image r o ≡ Found i n →
-      Start image r p → instruction_at image r p ≡ Found i' m → o + n ≡ p + m → o ≡ p
+  one_start : {r o p n m : ℕ} {i i' : Instruction} → Start image r o → instruction_at image r o ≡ Ok (i, n) →
+      Start image r p → instruction_at image r p ≡ Ok (i', m) → o + n ≡ p + m → o ≡ p
   one_start {r} {o} {p} s f t g e =
       by_cases (ℕ_discrete o p) (λ e. e)
       (λ ne. by_cases (dec_lt o p)
@@ -62,7 +62,7 @@ module _ (image : List ℕ) (limits : Limits) (depth need : ℕ → ℕ) (code :
       (who, one_start (rw who at b.start) (rw who at b.found) c.start c.found (omega arith))
 
   -- a call goes to an earlier routine, so nobody calls main
-  calls_earlier : {r c o n : ℕ} {i : Instruction} → r < count_of image → c < count_of image → Start image c o → instruction_at image c o ≡ Found i n →
+  calls_earlier : {r c o n : ℕ} {i : Instruction} → r < count_of image → c < count_of image → Start image c o → instruction_at image c o ≡ Ok (i, n) →
       call_target (base_of image + (o + n)) (effect i).flow ≡ some (base_of image + start_of image r) → r < c
   calls_earlier {r} {c} {o} listed lc s f calls =
       let here = code.at lc s in
@@ -72,7 +72,7 @@ module _ (image : List ℕ) (limits : Limits) (depth need : ℕ → ℕ) (code :
       let who = one_routine image code.layout callee.0 r (omega arith) (omega arith) (omega (arith, callee.1.target)) in
       omega arith
 
-  pub main_uncalled : {r c o n : ℕ} {i : Instruction} → r ≡ main_of image → c < count_of image → Start image c o → instruction_at image c o ≡ Found i n →
+  pub main_uncalled : {r c o n : ℕ} {i : Instruction} → r ≡ main_of image → c < count_of image → Start image c o → instruction_at image c o ≡ Ok (i, n) →
       call_target (base_of image + (o + n)) (effect i).flow ≡ some (base_of image + start_of image r) → ⊥
   unfolding main_of
   main_uncalled is lc s f calls = omega (arith, calls_earlier (omega (arith, code.layout.count.0)) lc s f calls)

@@ -3,11 +3,11 @@ use Prim.Native.Nat.{ℕ, ◌+◌}
 use mathlib.Core.Path.{◌≡◌, refl}
 use mathlib.Core.Bool.{Bool, true, false, cond}
 use borrow.Author.Tests.{eq-eqb, ne_eqb}
+use Rattle.std.specs.Prelude.{Ok, Err}
+use Rattle.stm8.specs.Decoding.{Decoded}
 use Rattle.stm8.specs.Effects.{call_target, effect}
 use Rattle.stm8.specs.declared.Flow.TheVariants.{Branch, Jump}
 use Rattle.stm8.specs.declared.Instruction.{Instruction}
-use Rattle.stm8.specs.declared.Decoded.{Decoded}
-use Rattle.stm8.specs.declared.Decoded.TheVariants.{Found, Outside, Truncated}
 use Rattle.decode_pass.proofs.DecodePass.{NoInstruction}
 use Rattle.resuming.specs.Internal.{calls_to, is_call_to}
 
@@ -19,11 +19,10 @@ jump_calls_nobody false next n address = refl
 
 module _ (base o next address : ℕ) (x : Decoded) where
   pub call_none : (d : Decoded) → d ≡ x → NoInstruction d → false ≡ is_call_to base o next address x
-  call_none (Found i n) e k = absurd (k i n refl)
-  call_none Outside e k = rw (← e)
-  call_none Truncated e k = rw (← e)
+  call_none (Ok (i, n)) e k = absurd (k i n refl)
+  call_none (Err error) e k = rw (← e)
 
-  module _ {i : Instruction} {n : ℕ} (found : x ≡ Found i n) where
+  module _ {i : Instruction} {n : ℕ} (found : x ≡ Ok (i, n)) where
     pub call_elsewhere : (o + n ≡ next → ⊥) → false ≡ is_call_to base o next address x
     call_elsewhere other = rw (found, ne_eqb (o + n) next other)
 

@@ -10,10 +10,10 @@ use native.Mathlib.Omega.{arith}
 use lib.Dec.{eqb}
 use lib.ListN.{get_or}
 use borrow.Author.Tests.{eqb-true, eq-eqb}
+use Rattle.std.specs.Prelude.{Ok, Err}
+use Rattle.stm8.specs.Decoding.{Decoded}
 use Rattle.stm8.specs.Effects.{call_target, effect}
 use Rattle.stm8.specs.declared.Instruction.{Instruction}
-use Rattle.stm8.specs.declared.Decoded.{Decoded}
-use Rattle.stm8.specs.declared.Decoded.TheVariants.{Found, Outside, Truncated}
 use Rattle.image.specs.declared.Limits.{Limits}
 use Rattle.image.specs.Image.{base_of, count_of, size_of, start_of}
 use Rattle.image.proofs.Measuring.{start_zero, end_inside}
@@ -28,7 +28,7 @@ use Rattle.resuming.proofs.Callers.{inside, one_place}
 record IsCall (base o next address : ℕ) (d : Decoded) : Type 0 where
   instruction : Instruction
   size : ℕ
-  found : d ≡ Found instruction size
+  found : d ≡ Ok (instruction, size)
   ends : o + size ≡ next
   calls : call_target (base + next) (effect instruction).flow ≡ some address
 
@@ -41,13 +41,12 @@ both_pass true r e = (refl, e)
 both_pass false r e = absurd (false≢true e)
 
 is_call : (base o next address : ℕ) (d : Decoded) → is_call_to base o next address d ≡ true → IsCall base o next address d
-is_call base o next address (Found i n) e =
+is_call base o next address (Ok (i, n)) e =
     let h = both_pass (eqb (o + n) next) (calls_to (call_target (base + next) (effect i).flow) address) e in
     record { instruction = i; size = n; found = refl; ends = eqb-true (o + n) next h.0; calls = calls_address _ address h.1 }
-is_call base o next address Outside e = absurd (false≢true e)
-is_call base o next address Truncated e = absurd (false≢true e)
+is_call base o next address (Err error) e = absurd (false≢true e)
 
-call_passes : (base o next address : ℕ) (d : Decoded) {i : Instruction} {n : ℕ} → d ≡ Found i n → o + n ≡ next →
+call_passes : (base o next address : ℕ) (d : Decoded) {i : Instruction} {n : ℕ} → d ≡ Ok (i, n) → o + n ≡ next →
     call_target (base + next) (effect i).flow ≡ some address → is_call_to base o next address d ≡ true
 call_passes base o next address d {n = n} found ends calls = rw (found, eq-eqb (o + n) next ends, calls) (eq-eqb address address refl)
 
@@ -112,7 +111,7 @@ module _ (image : List ℕ) (limits : Limits) (marks : List ℕ) (m : MarkedCode
         let k = m.code.at b.listed b.start in
         let same = same_found k.stands b.found in
         let ends : p + b.size ≡ next = omega (arith, b.after) in
-        let found : instruction_in image p ≡ Found b.instruction b.size = k.found ∙ sym k.stands ∙ b.found in
+        let found : instruction_in image p ≡ Ok (b.instruction, b.size) = k.found ∙ sym k.stands ∙ b.found in
         let passes = call_passes (base_of image) p next target (instruction_in image p) found ends (rw ends at b.calls) in
         false≢true (sym e ∙ rw here at passes)
 

@@ -1,11 +1,10 @@
 -- What the private functions of resuming ask of each other. No public contract cites it.
-use Rattle.std.specs.Prelude.{ℕ, ◌+◌, ◌<◌, ◌≤◌, ◌≡◌, Bool, true, false, cond, ◌⊎◌, List, eqb, get_or}
+use Rattle.std.specs.Prelude.{ℕ, ◌+◌, ◌<◌, ◌≤◌, ◌≡◌, Bool, true, false, cond, ◌⊎◌, List, eqb, get_or, Ok, Err}
 use Rattle.std.proofs.Math.Option.{Option, none, some}
 use Rattle.numbers.specs.Lists.{Bytes}
+use Rattle.stm8.specs.Decoding.{Decoded}
 use Rattle.stm8.specs.Effects.{call_target, effect}
 use Rattle.stm8.specs.declared.Instruction.{Instruction}
-use Rattle.stm8.specs.declared.Decoded.{Decoded}
-use Rattle.stm8.specs.declared.Decoded.TheVariants.{Found, Outside, Truncated}
 use Rattle.image.specs.declared.Limits.{Limits}
 use Rattle.image.specs.Image.{base_of, count_of, start_of}
 use Rattle.image.specs.Lengths.{Begins}
@@ -54,9 +53,8 @@ calls_to (some called) address = eqb called address
 
 -- what stands at an offset ends at the offset `next`, and calls the address
 abbrev pub is_call_to : ℕ → ℕ → ℕ → ℕ → Decoded → Bool
-is_call_to base o next address (Found i n) = cond (eqb (o + n) next) (calls_to (call_target (base + next) (effect i).flow) address) false
-is_call_to base o next address Outside = false
-is_call_to base o next address Truncated = false
+is_call_to base o next address (Ok (i, n)) = cond (eqb (o + n) next) (calls_to (call_target (base + next) (effect i).flow) address) false
+is_call_to base o next address (Err e) = false
 
 -- at a start at offset o stands a call to `target`, and the word is the address after it
 pub record CallBefore (image : List ℕ) (word target o : ℕ) : Type 0 where
@@ -65,7 +63,7 @@ pub record CallBefore (image : List ℕ) (word target o : ℕ) : Type 0 where
   pub start : Start image routine o
   pub instruction : Instruction
   pub size : ℕ
-  pub found : instruction_at image routine o ≡ Found instruction size
+  pub found : instruction_at image routine o ≡ Ok (instruction, size)
   pub calls : call_target (base_of image + (o + size)) (effect instruction).flow ≡ some target
   pub after : word ≡ base_of image + (o + size)
 

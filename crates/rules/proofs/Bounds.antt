@@ -7,11 +7,11 @@ use mathlib.Core.Logic.{◌↔◌, ⊎_elim}
 use mathlib.Core.List.{List}
 use native.Mathlib.Omega.{arith}
 use lib.ListN.{get_or}
+use Rattle.std.specs.Prelude.{Ok}
 use Rattle.stm8.specs.Effects.{bytes_wide, call_target, effect}
 use Rattle.stm8.specs.declared.Instruction.{Instruction}
 use Rattle.stm8.specs.declared.Width.{Width}
 use Rattle.stm8.specs.declared.Place.TheVariants.{Direct, OnStack}
-use Rattle.stm8.specs.declared.Decoded.TheVariants.{Found}
 use Rattle.image.specs.declared.Limits.{Limits}
 use Rattle.image.specs.Image.{base_of, count_of, size_of, start_of}
 use Rattle.image.specs.Access.{Granted}
@@ -28,7 +28,7 @@ use Rattle.rules.proofs.Counting.{count_some}
 
 -- a routine's need covers the depths before and after each of its instructions, and at a call the return address and the callee's need too
 module _ {image : List ℕ} {depth need : ℕ → ℕ} {r most : ℕ} (g : Greatest (Use image depth need r) most)
-    {o n : ℕ} {i : Instruction} (s : Start image r o) (f : instruction_at image r o ≡ Found i n) where
+    {o n : ℕ} {i : Instruction} (s : Start image r o) (f : instruction_at image r o ≡ Ok (i, n)) where
   pub need_covers : {v : ℕ} → InstructionUse image need r (base_of image + (o + n)) (depth o) (effect i) v → v ≤ most
   need_covers u = g.bounds (record { offset = o; instruction = i; size = n; start = s; found = f; used = u })
 

@@ -5,11 +5,12 @@ use mathlib.Core.Option.{some}
 use mathlib.Core.Logic.{◌⊎◌, ⊎_elim}
 use mathlib.Core.List.{List}
 use native.Mathlib.Omega.{arith}
+use Rattle.std.specs.Prelude.{Ok, Err}
+use Rattle.stm8.specs.Decoding.{Decoded}
 use Rattle.stm8.specs.Effects.{jump_target, effect}
 use Rattle.stm8.proofs.EffectLaws.{one_target}
 use Rattle.stm8.specs.declared.Instruction.{Instruction}
-use Rattle.stm8.specs.declared.Decoded.{Decoded}
-use Rattle.stm8.specs.declared.Decoded.TheVariants.{Found, Outside, Truncated}
+use Rattle.stm8.specs.declared.DecodeError.TheVariants.{Outside, Truncated}
 use Rattle.image.specs.declared.Limits.{Limits}
 use Rattle.image.specs.Image.{base_of, start_of, end_of}
 use Rattle.code.specs.Code.{instruction_at}
@@ -21,9 +22,9 @@ use Rattle.rules.proofs.AgreedDepths.{one_depth_fault}
 
 -- 8, 9 and 15 go by what the bytes are
 code_number : Decoded → ℕ
-code_number Outside = 8
-code_number Truncated = 9
-code_number (Found i n) = 15
+code_number (Err Outside) = 8
+code_number (Err Truncated) = 9
+code_number (Ok (i, n)) = 15
 
 code_number_lem : {image : List ℕ} {r o n : ℕ} → CodeFault image r o n → n ≡ code_number (instruction_at image r o)
 unfolding code_number
@@ -33,9 +34,9 @@ code_number_lem (off s f t past) = rw f
 
 -- a jump does not both leave its routine and stay in it
 not_both : (image : List ℕ) (r o : ℕ) {n n' to address : ℕ} {i i' : Instruction} →
-    instruction_at image r o ≡ Found i n → jump_target (base_of image + (o + n)) (effect i).flow ≡ some address →
+    instruction_at image r o ≡ Ok (i, n) → jump_target (base_of image + (o + n)) (effect i).flow ≡ some address →
     (address < base_of image + start_of image r) ⊎ (base_of image + end_of image r ≤ address) →
-    instruction_at image r o ≡ Found i' n' → jump_target (base_of image + (o + n')) (effect i').flow ≡ some (base_of image + to) →
+    instruction_at image r o ≡ Ok (i', n') → jump_target (base_of image + (o + n')) (effect i').flow ≡ some (base_of image + to) →
     start_of image r ≤ to → to < end_of image r → ⊥
 not_both image r o f j out f' j' low high =
     let same = same_found f f' in

@@ -5,9 +5,9 @@ use mathlib.Core.Logic.{◌↔◌}
 use mathlib.Core.Bool.{Bool, true, false}
 use mathlib.Core.List.{List}
 use native.Mathlib.Omega.{arith}
+use Rattle.std.specs.Prelude.{Ok}
 use Rattle.stm8.specs.Effects.{effect}
 use Rattle.stm8.specs.declared.Instruction.{Instruction}
-use Rattle.stm8.specs.declared.Decoded.TheVariants.{Found}
 use Rattle.image.specs.declared.Limits.{Limits}
 use Rattle.image.specs.Image.{count_of, size_of}
 use Rattle.code.specs.Depth.{after}
@@ -20,7 +20,7 @@ use Rattle.rules.proofs.Mapping.{greatest_map}
 
 module _ {Reach : ℕ → ℕ → Type 0} {image : List ℕ} {limits : Limits} {depth : ℕ → ℕ} {r : ℕ} (rules : RoutineRulesBy Reach image limits depth r) where
   -- the rules hold of what stands at a start
-  pub rules_found : {o n : ℕ} {i : Instruction} → Start image r o → instruction_at image r o ≡ Found i n →
+  pub rules_found : {o n : ℕ} {i : Instruction} → Start image r o → instruction_at image r o ≡ Ok (i, n) →
       InstructionRules image limits r (StartAt image depth r) o (depth o) i n
   rules_found s f =
       let g = rules.starts s in
@@ -28,7 +28,7 @@ module _ {Reach : ℕ → ℕ → Type 0} {image : List ℕ} {limits : Limits} {
       rw (same.0, same.1) g.rules
 
   -- where control goes stands a start, at the depth after the instruction
-  pub arrives : {o to n : ℕ} {i : Instruction} → Start image r o → instruction_at image r o ≡ Found i n → Goes image r o to →
+  pub arrives : {o to n : ℕ} {i : Instruction} → Start image r o → instruction_at image r o ≡ Ok (i, n) → Goes image r o to →
       StartAt image depth r to (after (effect i) (depth o))
   arrives s f (falling g t e) = rw (e, (same_found f g).0) ((rules_found s g).fall t)
   arrives {to = to} s f (jumping g j) =

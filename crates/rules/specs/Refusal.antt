@@ -1,10 +1,10 @@
 -- Which refusal the code of an image gets, 6 to 16, with its offset: what each number means, and the order. Nothing here knows how a check goes
 -- about it.
-use Rattle.std.specs.Prelude.{ℕ, ◌+◌, ◌<◌, ◌≤◌, ◌≡◌, ◌⊎◌, true, List, [], ◌∷◌}
+use Rattle.std.specs.Prelude.{ℕ, ◌+◌, ◌<◌, ◌≤◌, ◌≡◌, ◌⊎◌, true, List, [], ◌∷◌, Ok, Err}
 use Rattle.std.proofs.Math.Option.{some}
 use Rattle.stm8.specs.Effects.{jump_target, call_target, effect}
 use Rattle.stm8.specs.declared.Instruction.{Instruction}
-use Rattle.stm8.specs.declared.Decoded.TheVariants.{Found, Outside, Truncated}
+use Rattle.stm8.specs.declared.DecodeError.TheVariants.{Outside, Truncated}
 use Rattle.stm8.specs.declared.Effect.{Effect}
 use Rattle.stm8.specs.declared.Flow.TheVariants.{Return}
 use Rattle.image.specs.declared.Limits.{Limits}
@@ -16,17 +16,17 @@ use Rattle.rules.specs.Rules.{reported_need, StoreRules, RoutineRules, NeedRules
 
 -- 8, outside the set; 9, runs past its routine; 15, falls off its routine
 pub data CodeFault (image : List ℕ) (r : ℕ) : ℕ → ℕ → Type 0 where
-  outside : {o : ℕ} → Start image r o → instruction_at image r o ≡ Outside → CodeFault image r o 8
-  cut : {o : ℕ} → Start image r o → instruction_at image r o ≡ Truncated → CodeFault image r o 9
-  off : {o n : ℕ} {i : Instruction} → Start image r o → instruction_at image r o ≡ Found i n → falls (effect i).flow ≡ true →
+  outside : {o : ℕ} → Start image r o → instruction_at image r o ≡ Err Outside → CodeFault image r o 8
+  cut : {o : ℕ} → Start image r o → instruction_at image r o ≡ Err Truncated → CodeFault image r o 9
+  off : {o n : ℕ} {i : Instruction} → Start image r o → instruction_at image r o ≡ Ok (i, n) → falls (effect i).flow ≡ true →
       end_of image r ≤ o + n → CodeFault image r o 15
 
 -- 13, jump leaves its routine; 10, it stays and lands on no start. Both stand at the jump.
 pub data JumpFault (image : List ℕ) (r : ℕ) : ℕ → ℕ → Type 0 where
-  leaves : {o n address : ℕ} {i : Instruction} → Start image r o → instruction_at image r o ≡ Found i n →
+  leaves : {o n address : ℕ} {i : Instruction} → Start image r o → instruction_at image r o ≡ Ok (i, n) →
       jump_target (base_of image + (o + n)) (effect i).flow ≡ some address →
       (address < base_of image + start_of image r) ⊎ (base_of image + end_of image r ≤ address) → JumpFault image r o 13
-  inside : {o n to : ℕ} {i : Instruction} → Start image r o → instruction_at image r o ≡ Found i n →
+  inside : {o n to : ℕ} {i : Instruction} → Start image r o → instruction_at image r o ≡ Ok (i, n) →
       jump_target (base_of image + (o + n)) (effect i).flow ≡ some (base_of image + to) →
       start_of image r ≤ to → to < end_of image r → (Start image r to → ⊥) → JumpFault image r o 10
 
@@ -49,7 +49,7 @@ pub record InRange (e : Effect) (pushes pops : ℕ) : Type 0 where
 -- an instruction of routine r at a start, with the depth of a path to it
 pub record Arrival (image : List ℕ) (r o n : ℕ) (i : Instruction) (pushes pops : ℕ) : Type 0 where
   pub start : Start image r o
-  pub found : instruction_at image r o ≡ Found i n
+  pub found : instruction_at image r o ≡ Ok (i, n)
   pub path : Path image r o pushes pops
 
 -- 11, depth leaves 0 to 255, or RET above 0; then 12, store not allowed; then 14, call not to an earlier routine

@@ -1,11 +1,10 @@
 -- Document 01's rules for the code of an image: depth, reach and need. Nothing here knows how a check goes about them. A depth for each offset and
 -- a need for each routine are given: the rules say whether they are the right ones.
-use Rattle.std.specs.Prelude.{ℕ, zero, suc, ◌+◌, ◌-◌, ◌<◌, ◌≤◌, ◌≡◌, Bool, true, ◌↔◌, List}
+use Rattle.std.specs.Prelude.{ℕ, zero, suc, ◌+◌, ◌-◌, ◌<◌, ◌≤◌, ◌≡◌, Bool, true, ◌↔◌, List, Ok}
 use Rattle.std.proofs.Math.Option.{some}
 use Rattle.numbers.specs.Bits.{flag}
 use Rattle.stm8.specs.Effects.{bytes_wide, jump_target, call_target, effect}
 use Rattle.stm8.specs.declared.Instruction.{Instruction}
-use Rattle.stm8.specs.declared.Decoded.TheVariants.{Found}
 use Rattle.stm8.specs.declared.Effect.{Effect}
 use Rattle.stm8.specs.declared.Place.{Place}
 use Rattle.stm8.specs.declared.Place.TheVariants.{Nowhere, Direct, OnStack, Pushed}
@@ -58,7 +57,7 @@ pub record StartAt (image : List ℕ) (depth : ℕ → ℕ) (r o d : ℕ) : Type
 pub record StartRules (Reach : ℕ → ℕ → Type 0) (image : List ℕ) (limits : Limits) (depth : ℕ → ℕ) (r o : ℕ) : Type 0 where
   pub instruction : Instruction
   pub size : ℕ
-  pub found : instruction_at image r o ≡ Found instruction size
+  pub found : instruction_at image r o ≡ Ok (instruction, size)
   pub reached : Reach r o
   pub rules : InstructionRules image limits r (StartAt image depth r) o (depth o) instruction size
 
@@ -83,7 +82,7 @@ pub record Use (image : List ℕ) (depth need : ℕ → ℕ) (r v : ℕ) : Type 
   pub instruction : Instruction
   pub size : ℕ
   pub start : Start image r offset
-  pub found : instruction_at image r offset ≡ Found instruction size
+  pub found : instruction_at image r offset ≡ Ok (instruction, size)
   pub used : InstructionUse image need r (base_of image + (offset + size)) (depth offset) (effect instruction) v
 
 pub record Greatest (P : ℕ → Type 0) (most : ℕ) : Type 0 where

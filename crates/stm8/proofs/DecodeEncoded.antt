@@ -8,6 +8,7 @@ use borrow.Author.Tests.{ltb-true, leb-true}
 use lib.Dec.{T, ltb, leb, leb→le, lt→ltb}
 use lib.Seq.{take-take, take-append_seam}
 use lib.ListN.{get_or, length, length-append, take}
+use Rattle.std.specs.Prelude.{Ok}
 use Rattle.numbers.specs.Words.{high, low}
 use Rattle.numbers.proofs.Computing.{below}
 use Rattle.numbers.proofs.WordLaws.{word_high_low}
@@ -16,7 +17,6 @@ use Rattle.stm8.specs.Encoding.{bytes_of, bit_precode, bit_code, test_code, padd
 use Rattle.stm8.specs.Decoding.{page_of, precodes, entry_in, decoded}
 use Rattle.stm8.proofs.Columns.{each_alu, each_modify, each_condition}
 use Rattle.stm8.proofs.Opening.{opened}
-use Rattle.stm8.specs.declared.Decoded.TheVariants.{Found}
 use Rattle.stm8.specs.declared.Register.{Register}
 use Rattle.stm8.specs.declared.Register.TheVariants.{X, Y}
 use Rattle.stm8.specs.declared.Half.TheVariants.{Low, High}
@@ -235,7 +235,7 @@ module _ (i : Instruction) (some : 0 < length (bytes_of i)) where
       third e = cc
 
   -- an instruction that has bytes is decoded from them
-  pub decode_bytes : (rest : List ℕ) → decoded (bytes_of i ++ rest) ≡ Found i (length (bytes_of i))
+  pub decode_bytes : (rest : List ℕ) → decoded (bytes_of i ++ rest) ≡ Ok (i, length (bytes_of i))
   decode_bytes rest =
       let size : length (bytes_of i ++ rest) ≡ length (bytes_of i) + length rest = length-append (bytes_of i) rest in
       let op : precodes (page_of (get_or (bytes_of i ++ rest) 0 0)) < length (bytes_of i) = ltb-true _ _ (second (seen_front rest)) in
@@ -264,7 +264,7 @@ padded_bytes (x ∷ s) h g =
 
 -- what was encoded: the number is 0 and as many of the five bytes as the length says are decoded, whatever comes after them
 pub decode_encoded : (i : Instruction) (rest : List ℕ) → (encoded i).number ≡ 0 →
-    decoded (take (encoded i).length (encoded i).bytes ++ rest) ≡ Found i (encoded i).length
+    decoded (take (encoded i).length (encoded i).bytes ++ rest) ≡ Ok (i, (encoded i).length)
 decode_encoded i rest e =
     let some = padded_some (bytes_of i) e in
     rw (padded_length (bytes_of i), padded_bytes (bytes_of i) some (bytes_short i some)) (decode_bytes i some rest)

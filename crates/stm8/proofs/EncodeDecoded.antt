@@ -8,6 +8,7 @@ use native.Mathlib.Nat.{le_of_suc-le-suc, not-suc-le-zero}
 use borrow.Author.Tests.{eqb-true}
 use lib.Dec.{eqb}
 use lib.ListN.{get_or, length, take, length-take}
+use Rattle.std.specs.Prelude.{Ok}
 use Rattle.numbers.specs.Lists.{Bytes}
 use Rattle.numbers.proofs.Computing.{below}
 use Rattle.numbers.proofs.WordLaws.{high_word, low_word}
@@ -16,7 +17,6 @@ use Rattle.stm8.specs.Encoding.{bytes_of, padded, encoded}
 use Rattle.stm8.specs.Decoding.{page_of, precodes, entry_in, decoded}
 use Rattle.stm8.proofs.Opening.{Opened, found}
 use Rattle.stm8.specs.declared.Instruction.{Instruction}
-use Rattle.stm8.specs.declared.Decoded.TheVariants.{Found}
 
 -- the bytes of an entry, and as many of the bytes that it was made of
 abbrev again : Entry → List ℕ
@@ -81,7 +81,7 @@ page_front s = by_tests (eqb (get_or s 0 0) 0x72) (eqb (get_or s 0 0) 0x90) refl
     by_tests false false e f = refl
 
 module _ (s : List ℕ) (bytes : Bytes s) (i : Instruction) (n : ℕ) where
-  pub encode_bytes : decoded s ≡ Found i n → bytes_of i ≡ take n s
+  pub encode_bytes : decoded s ≡ Ok (i, n) → bytes_of i ≡ take n s
   encode_bytes f =
       let o = found s i n f in
       let page = page_of (get_or s 0 0) in
@@ -98,5 +98,5 @@ module _ (s : List ℕ) (bytes : Bytes s) (i : Instruction) (n : ℕ) where
           whole ∙ window_take m (length (bytes_of i)) s (omega arith) (omega arith) ∙ ap (λ k. take k s) size
 
   -- in the form that encoding gives them: the length, and five bytes, 00 past the length
-  pub encode_decoded : decoded s ≡ Found i n → encoded i ≡ padded (take n s)
+  pub encode_decoded : decoded s ≡ Ok (i, n) → encoded i ≡ padded (take n s)
   encode_decoded f = ap padded (encode_bytes f)

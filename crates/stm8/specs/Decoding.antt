@@ -1,10 +1,11 @@
 -- Decoding: what the bytes at the front of a list are.
-use Rattle.std.specs.Prelude.{ℕ, ◌+◌, List, [], ◌∷◌, cond, eqb, leb, ltb, length, get_or}
+use Rattle.std.specs.Prelude.{ℕ, ◌+◌, List, [], ◌∷◌, cond, eqb, leb, ltb, length, get_or, Result, Ok, Err}
 use Rattle.numbers.specs.Computed.{table}
 use Rattle.stm8.specs.OpcodeMap.{Page, Plain, After72, After90, Entry, Blank, Is, entry}
 use Rattle.stm8.specs.Encoding.{bytes_of}
-use Rattle.stm8.specs.declared.Decoded.{Decoded}
-use Rattle.stm8.specs.declared.Decoded.TheVariants.{Found, Outside, Truncated}
+use Rattle.stm8.specs.declared.Instruction.{Instruction}
+use Rattle.stm8.specs.declared.DecodeError.{DecodeError}
+use Rattle.stm8.specs.declared.DecodeError.TheVariants.{Outside, Truncated}
 
 -- the page that a first byte selects, and the bytes in front of its op-code
 abbrev pub page_of : ℕ → Page
@@ -30,17 +31,21 @@ length_of (Is i) = length (bytes_of i)
 unfoldable pub lengths : Page → List ℕ
 lengths page = table (λ op. length_of (entry page op 0 0 0 0))
 
+-- what decoding finds: an instruction and its length, or why there is none
+abbrev pub Decoded : Type 0
+Decoded = Result (Instruction × ℕ) DecodeError
+
 -- an entry of n bytes: outside the set, or cut short where there are fewer bytes, or found
 abbrev pub found_as : ℕ → Entry → Decoded
-found_as n Blank = Outside
-found_as n (Is i) = Found i n
+found_as n Blank = Err Outside
+found_as n (Is i) = Ok (i, n)
 
 abbrev pub sized : ℕ → Entry → ℕ → Decoded
-sized n e room = cond (eqb n 0) Outside (cond (ltb room n) Truncated (found_as n e))
+sized n e room = cond (eqb n 0) (Err Outside) (cond (ltb room n) (Err Truncated) (found_as n e))
 
 -- the bytes on a page whose entry has n bytes; bytes that end before an op-code, none at all or a pre-code alone, are cut short too
 abbrev pub decoded_in : Page → ℕ → List ℕ → Decoded
-decoded_in page n s = cond (leb (length s) (precodes page)) Truncated (sized n (entry_in page s) (length s))
+decoded_in page n s = cond (leb (length s) (precodes page)) (Err Truncated) (sized n (entry_in page s) (length s))
 
 -- what the bytes are
 unfoldable pub decoded : List ℕ → Decoded
@@ -61,6 +66,6 @@ map_lengths = lengths Plain ∷ lengths After72 ∷ lengths After90 ∷ []
 
 -- document 01's number of an answer, 0 for an instruction
 abbrev pub decoding_number : Decoded → ℕ
-decoding_number (Found i n) = 0
-decoding_number Outside = 8
-decoding_number Truncated = 9
+decoding_number (Ok (i, n)) = 0
+decoding_number (Err Outside) = 8
+decoding_number (Err Truncated) = 9

@@ -178,13 +178,15 @@ pub enum Instruction {
     Flag(FlagOp),
 }
 
-// What decoding finds: an instruction and its length, an op-code outside the set, or bytes that end too soon.
-#[derive(Clone, Copy)]
-pub enum Decoded {
-    Found(Instruction, usize),
+// Why decoding finds no instruction: the op-code is outside the set, or the bytes end too soon.
+#[derive(Clone, Copy, Debug, PartialEq, Eq)]
+pub enum DecodeError {
     Outside,
     Truncated,
 }
+
+// What decoding finds: an instruction and its length.
+pub type Decoded = Result<(Instruction, usize), DecodeError>;
 
 // What encoding gives: the number 0 or 18, the length, and the bytes, 0 past the length.
 #[derive(Clone, Copy)]

@@ -5,12 +5,12 @@ use mathlib.Core.Bool.{Bool, true, false, false≢true}
 use mathlib.Core.List.{List, [], map}
 use native.Mathlib.Nat.{zero-add, add-zero}
 use native.Mathlib.Omega.{arith}
+use Rattle.std.specs.Prelude.{Ok, Err}
 use Rattle.numbers.specs.Folds.{total}
+use Rattle.stm8.specs.Decoding.{Decoded}
 use Rattle.stm8.specs.Effects.{jump_target, call_target, effect}
 use Rattle.stm8.specs.declared.Instruction.{Instruction}
 use Rattle.stm8.specs.declared.Effect.{Effect}
-use Rattle.stm8.specs.declared.Decoded.{Decoded}
-use Rattle.stm8.specs.declared.Decoded.TheVariants.{Found, Outside, Truncated}
 use Rattle.image.specs.Image.{base_of, start_of, end_of}
 use Rattle.code.specs.Code.{instruction_at}
 use Rattle.code.specs.Instructions.{found_size, Located, located_at}
@@ -25,11 +25,10 @@ use Rattle.turns.proofs.Holding.{held_low, held_sum, held_more}
 module _ {image turns : List ℕ} {r at : ℕ} where
   pub count_none : {end : ℕ} (d : Decoded) → d ≡ instruction_at image r at → NoInstruction d → end ≡ end_of image r →
       CountedAt image turns r at (record { turn = 0; back = false; next = end })
-  count_none (Found i n) e none end_is = absurd (none i n refl)
-  count_none Outside e none end_is = nothing (rw (← e)) (rw (← e)) refl refl end_is
-  count_none Truncated e none end_is = nothing (rw (← e)) (rw (← e)) refl refl end_is
+  count_none (Ok (i, n)) e none end_is = absurd (none i n refl)
+  count_none (Err error) e none end_is = nothing (rw (← e)) (rw (← e)) refl refl end_is
 
-  pub count_one : {i : Instruction} {n base t : ℕ} {e : Effect} {back : Bool} → instruction_at image r at ≡ Found i n → e ≡ effect i →
+  pub count_one : {i : Instruction} {n base t : ℕ} {e : Effect} {back : Bool} → instruction_at image r at ≡ Ok (i, n) → e ≡ effect i →
       base ≡ base_of image → t ≡ held (callee_turn image turns r (call_target (base + at + n) e.flow)) →
       back ≡ goes_back (base + at) (jump_target (base + at + n) e.flow) →
       CountedAt image turns r at (record { turn = 1 + t; back = back; next = at + n })
@@ -62,7 +61,7 @@ module _ (image turns : List ℕ) (r : ℕ) where
   back_end past = rw (from_end image r past)
 
   module _ {o : ℕ} (inside : o < end_of image r) where
-    module _ {i : Instruction} {n : ℕ} (found : instruction_at image r o ≡ Found i n) where
+    module _ {i : Instruction} {n : ℕ} (found : instruction_at image r o ≡ Ok (i, n)) where
       abbrev here : Located
       here = record { offset = o; instruction = i; size = n }
 

@@ -1,7 +1,6 @@
 -- What the private functions that sum turns ask of each other. No public contract cites it.
-use Rattle.std.specs.Prelude.{ℕ, ◌+◌, ◌≤◌, min, ◌≡◌, false, List, [], get_or}
+use Rattle.std.specs.Prelude.{ℕ, ◌+◌, ◌≤◌, min, ◌≡◌, false, List, [], get_or, Ok}
 use Rattle.stm8.specs.declared.Instruction.{Instruction}
-use Rattle.stm8.specs.declared.Decoded.TheVariants.{Found}
 use Rattle.image.specs.Image.{end_of, main_of}
 use Rattle.code.specs.Code.{instruction_at}
 use Rattle.code.specs.Instructions.{found_size, located_at}
@@ -24,7 +23,7 @@ Fit cells = (k : ℕ) → get_or cells k 0 ≤ 4294967296
 -- What stands at an offset of routine r: its turn, to what is held, whether it jumps back, and where it ends. Where no instruction stands the
 -- instructions are over.
 pub data CountedAt (image turns : List ℕ) (r at : ℕ) (c : Counted) : Type 0 where
-  one : {i : Instruction} {n : ℕ} → instruction_at image r at ≡ Found i n →
+  one : {i : Instruction} {n : ℕ} → instruction_at image r at ≡ Ok (i, n) →
       held c.turn ≡ held (instruction_turn image turns r (record { offset = at; instruction = i; size = n })) →
       c.back ≡ jumps_back image (record { offset = at; instruction = i; size = n }) → c.next ≡ at + n → CountedAt image turns r at c
   nothing : located_at at (instruction_at image r at) ≡ [] → found_size (instruction_at image r at) ≡ 0 → c.turn ≡ 0 → c.back ≡ false →

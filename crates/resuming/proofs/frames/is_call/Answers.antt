@@ -4,7 +4,7 @@ use mathlib.Core.Path.{◌≡◌, sym, ap, ◌∙◌}
 use native.Mathlib.Omega.{arith}
 use mathlib.Core.List.{List}
 use lib.ListN.{length, take, drop}
-use Rattle.stm8.specs.declared.Decoded.{Decoded}
+use Rattle.stm8.specs.Decoding.{Decoded}
 use Rattle.image.specs.Image.{code_at, code_of, size_of, version_of}
 use Rattle.image.specs.Rules.{ImageRules}
 use Rattle.code.proofs.Parts.{code_cut}
