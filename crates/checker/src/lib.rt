@@ -9,7 +9,7 @@ ghost use Rattle.image.specs.Image.{count_of};
 ghost use Rattle.image.specs.Lengths.{Begins};
 ghost use Rattle.image.specs.Validation.{validated};
 ghost use Rattle.image.specs.declared.Layout.{Layout};
-ghost use Rattle.image.specs.declared.Validated.TheVariants.{Valid};
+ghost use Rattle.image.specs.Validated.{Valid};
 ghost use Rattle.rules.specs.Outcome.{Outcome, VerdictNumbered};
 ghost use Rattle.rules.specs.declared.Verdict.TheVariants.{Accepted};
 ghost use Rattle.acceptance.specs.Check.{checked};

@@ -6,7 +6,7 @@ use Rattle.numbers.specs.Folds.{first_in}
 use Rattle.numbers.proofs.Checking.{first_pass}
 use Rattle.image.specs.Validation.{limits_check, refusal, validated}
 use Rattle.image.specs.declared.Limits.{Limits}
-use Rattle.image.specs.declared.Validated.{Validated}
+use Rattle.image.specs.Validated.{Validated}
 use Rattle.layout_cells.specs.Cells.{laid_out}
 
 pub laid_out_lem : (image : List ℕ) (limits : Limits) → limits_check limits ≡ 0 → validated image limits ≡ laid_out image

@@ -5,8 +5,8 @@ use Rattle.numbers.specs.Folds.{first_in}
 use Rattle.image.specs.Image.{base_of, lengths_of, code_of, layout_of, start_of}
 use Rattle.image.specs.Validation.{mark_check, version_check, layout_check, answer}
 use Rattle.image.specs.declared.Layout.{Layout}
-use Rattle.image.specs.declared.Validated.{Validated}
-use Rattle.image.specs.declared.Validated.TheVariants.{Refused, Valid}
+use Rattle.image.specs.Validated.{Validated}
+use Rattle.image.specs.Validated.{Refused, Valid}
 
 -- 2 to 4 in their order, or the layout
 unfoldable pub laid_out : List ℕ → Validated
