@@ -4,5 +4,6 @@ pub mod Rules
 pub mod Access
 pub mod Validated
 pub mod Validation
+pub mod Measured
 pub mod ValidLayout
 pub mod Parts

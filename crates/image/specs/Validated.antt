@@ -3,7 +3,6 @@ use Rattle.std.specs.Prelude.{ℕ, Result, Ok, Err}
 use Rattle.image.specs.declared.ImageError.{ImageError}
 use Rattle.image.specs.declared.ImageError.TheVariants as ImageError
 use Rattle.image.specs.declared.Layout.{Layout}
-use Rattle.image.specs.declared.Measured.{Measured}
 
 pub data Validated : Type 0 where
   Refused : ℕ → Validated
@@ -25,7 +24,3 @@ number_of (Err error) = error_number error
 abbrev pub answer_of : Result Layout ImageError → Validated
 answer_of (Ok layout) = Valid layout
 answer_of (Err error) = Refused (error_number error)
-
-abbrev pub measured_answer : Result Measured ImageError → Validated
-measured_answer (Ok measured) = Valid measured.layout
-measured_answer (Err error) = Refused (error_number error)

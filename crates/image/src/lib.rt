@@ -5,11 +5,12 @@ mod access;
 mod areas;
 mod header;
 mod lengths;
+mod measured;
 mod parts;
 
 ghost use Rattle.std.specs.Prelude.{◌≡◌, IfOk};
-ghost use Rattle.image.specs.Lengths.{Begins};
-ghost use Rattle.image.specs.Validated.{error_number, answer_of, measured_answer};
+ghost use Rattle.image.specs.Measured.{measured_answer};
+ghost use Rattle.image.specs.Validated.{error_number, answer_of};
 ghost use Rattle.image.specs.Validation.{laid_out, validated, validation_number};
 
 pub use access::granted;
@@ -61,18 +62,13 @@ impl ImageError {
     }
 }
 
-// The layout of a valid image, and where its routines begin.
-#[derive(Clone, Copy)]
-pub struct Measured {
-    pub layout: Layout,
-    pub begins: [u16; 32],
-}
+pub use measured::Measured;
 
 // The layout of an image under limits, and where its routines begin; or the first rule that is broken, in document 01's order.
 #[tactic(auto, using(crate::proofs::Alone::laid_under), unfolding(crate::specs::Validation::validated, crate::specs::Validation::refusal, numbers::specs::Folds::first_in, numbers::specs::Checks::first))]
-pub fn measure(image: &[u8], limits: Limits) -> Result<Measured, ImageError>
+pub fn measure<'a>(image: &'a [u8], limits: Limits) -> Result<Measured<'a>, ImageError>
     ensures answer { measured_answer result ≡ validated image.now limits }
-    ensures begins { IfOk result (λ measured. Begins image.now measured.begins measured.layout.count) }
+    ensures same_image { IfOk result (λ measured. measured.image.now ≡ image.now) }
 {
     areas::limits_check(limits)?;
     measure_alone(image)
@@ -80,15 +76,19 @@ pub fn measure(image: &[u8], limits: Limits) -> Result<Measured, ImageError>
 
 // The same for an image by itself, with no limits.
 #[tactic(auto, using(numbers::proofs::Folding::first_none, crate::proofs::Alone::begins_alone), unfolding(crate::specs::Validation::laid_out, crate::specs::Validation::image_check, numbers::specs::Folds::first_in, numbers::specs::Checks::first))]
-pub fn measure_alone(image: &[u8]) -> Result<Measured, ImageError>
+pub fn measure_alone(image: &[u8]) -> Result<Measured<'_>, ImageError>
     ensures answer { measured_answer result ≡ laid_out image.now }
-    ensures begins { IfOk result (λ measured. Begins image.now measured.begins measured.layout.count) }
+    ensures same_image { IfOk result (λ measured. measured.image.now ≡ image.now) }
 {
     header::mark_check(image)?;
     header::version_check(image)?;
     let (lengths, begins) = header::read_lengths(image);
     let layout = header::layout_check(image, lengths)?;
-    Ok(Measured { layout, begins })
+    Ok(Measured {
+        image,
+        layout,
+        begins,
+    })
 }
 
 // The layout alone.
