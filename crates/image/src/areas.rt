@@ -19,6 +19,7 @@ fn area_at(bytes: &[u8], at: usize) -> Area
 }
 
 // The limits in the first twelve bytes, high byte first; a byte past the end counts as 0, so eight bytes have the second grant 0000-0000.
+#[tactic(auto, unfolding(crate::specs::Image::limits_of))]
 pub fn limits_of(bytes: &[u8]) -> Limits
     ensures { result ≡ limits_of bytes.now }
 {

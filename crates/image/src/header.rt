@@ -20,6 +20,7 @@ pub(crate) fn mark_check(image: &[u8]) -> Result<(), ImageError>
 }
 
 // The version.
+#[tactic(auto, unfolding(crate::specs::Image::version_of))]
 pub fn version_of(image: &[u8]) -> u16
     ensures { result ≡ version_of image.now }
 {
@@ -45,6 +46,7 @@ pub(crate) fn version_check(image: &[u8]) -> Result<(), ImageError>
 }
 
 // The address of the first code byte.
+#[tactic(auto, unfolding(crate::specs::Image::base_of))]
 pub fn base_of(image: &[u8]) -> u16
     ensures { result ≡ base_of image.now }
 {
@@ -52,6 +54,7 @@ pub fn base_of(image: &[u8]) -> u16
 }
 
 // The number of routines.
+#[tactic(auto, unfolding(crate::specs::Image::count_of))]
 pub fn count_of(image: &[u8]) -> u8
     ensures { result ≡ count_of image.now }
 {
@@ -59,6 +62,7 @@ pub fn count_of(image: &[u8]) -> u8
 }
 
 // The index of the first code byte.
+#[tactic(auto, unfolding(crate::specs::Image::code_at))]
 pub fn code_at(image: &[u8]) -> usize
     ensures value { result ≡ code_at image.now }
     ensures upper_bound { result ≤ 8 + 2 * 255 }
@@ -74,7 +78,8 @@ pub(crate) fn read_lengths(image: &[u8]) -> (LengthState, [u16; 32])
 {
     let mut begins = [0u16; 32];
     let mut state = LengthState::default();
-    for k in 0..count_of(image) as usize {
+    let count = count_of(image) as usize;
+    for k in 0..count {
         if k < 32 {
             begins[k] = (state.sum % 0x10000) as u16;
         }

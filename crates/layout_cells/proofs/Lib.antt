@@ -1,1 +1,2 @@
 pub mod Filling
+pub mod LaidOut

@@ -21,7 +21,7 @@ loop-k-preserved c =
     let image = c.args.image.now in
     let k = c.loop-k.k in
     let before = c.loop-k.invariant in
-    let below : k < count_of image = omega (arith, c.count_of-k-end.ensures) in
+    let below : k < count_of image = omega (arith, c.count_of-count.ensures) in
     let next = c.feed-state.ensures ∙ cut_whole _ (omega (arith, before.small)) in record {
       size = elim c.if-k-lt32.branch [ then-k-lt32 w ↦ rw w.begins-is (length-set _ k _ ∙ before.size) | else-k-lt32 w ↦ rw w.begins-is before.size ];
       state = state_next image k below before.state c.word_at.ensures next;
@@ -35,6 +35,6 @@ loop-k-preserved c =
 pub returns-clause-after_lengths : goal.returns-clause-after_lengths
 returns-clause-after_lengths c =
     let image = c.args.image.now in
-    let all : c.loop-k.k ≡ count_of image = omega (arith, c.count_of-k-end.ensures) in
+    let all : c.loop-k.k ≡ count_of image = omega (arith, c.count_of-count.ensures) in
     let whole = take_all (count_of image) (lengths_of image) (omega (arith, lengths_count image)) in
     c.loop-k.invariant.state ∙ ap (λ k. after_all (take k (lengths_of image))) all ∙ ap after_all whole
