@@ -10,8 +10,8 @@ use borrow.Author.Tests.{eqb-true, eqb-false, eq-eqb, ne_eqb, ltb-true, ltb-fals
 use Rattle.numbers.proofs.Checking.{by_test}
 use Rattle.image.specs.declared.Limits.{Limits}
 use Rattle.image.specs.declared.Layout.{Layout}
-use Rattle.image.specs.declared.Validated.{Validated}
-use Rattle.image.specs.declared.Validated.TheVariants as Validated
+use Rattle.image.specs.Validated.{Validated}
+use Rattle.image.specs.Validated as Validated
 use Rattle.image.specs.Image.{count_of, size_of, start_of, end_of}
 use Rattle.image.specs.Rules.{ImageRules}
 use Rattle.image.specs.Validation.{validated}

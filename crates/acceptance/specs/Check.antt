@@ -2,8 +2,8 @@
 use Rattle.std.specs.Prelude.{ℕ, zero, suc, ◌+◌, ◌-◌, max, cond, eqb, ltb, length, get_or, set, drop, replicate}
 use mathlib.Core.List.{List, [], ◌∷◌, ◌++◌, foldr, map}
 use Rattle.image.specs.declared.Limits.{Limits}
-use Rattle.image.specs.declared.Validated.{Validated}
-use Rattle.image.specs.declared.Validated.TheVariants as Validated
+use Rattle.image.specs.Validated.{Validated}
+use Rattle.image.specs.Validated as Validated
 use Rattle.image.specs.Validation.{validated}
 use Rattle.image.specs.Image.{count_of, size_of, start_of, end_of}
 use Rattle.rules.specs.Rules.{reported_need}

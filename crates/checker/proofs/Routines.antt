@@ -12,7 +12,7 @@ use Rattle.image.specs.Lengths.{Begins}
 use Rattle.image.specs.Validation.{validated}
 use Rattle.image.specs.declared.Limits.{Limits}
 use Rattle.image.specs.declared.Layout.{Layout}
-use Rattle.image.specs.declared.Validated.TheVariants.{Valid}
+use Rattle.image.specs.Validated.{Valid}
 use Rattle.image.proofs.Layouts.{valid_bounds, version_is, base_is, count_is, size_is}
 use Rattle.image.proofs.Measuring.{start_zero, start_next, start_inside, end_inside}
 use Rattle.image.proofs.Validity.{valid_rules}

@@ -8,7 +8,7 @@ use Rattle.image.specs.Image.{count_of, main_of, size_of, layout_of}
 use Rattle.image.specs.Validation.{validated}
 use Rattle.image.specs.declared.Limits.{Limits}
 use Rattle.image.specs.declared.Layout.{Layout}
-use Rattle.image.specs.declared.Validated.TheVariants.{Valid}
+use Rattle.image.specs.Validated.{Valid}
 use Rattle.image.proofs.Layouts.{count_is}
 use Rattle.image.proofs.Validity.{rules_valid}
 use Rattle.rules.specs.Rules.{reported_need}

@@ -8,8 +8,7 @@ ghost use Rattle.std.specs.Prelude.{◌≡◌, ℕ, ◌≤◌, length};
 ghost use Rattle.image.specs.Image.{count_of};
 ghost use Rattle.image.specs.Lengths.{Begins};
 ghost use Rattle.image.specs.Validation.{validated};
-ghost use Rattle.image.specs.declared.Layout.{Layout};
-ghost use Rattle.image.specs.declared.Validated.TheVariants.{Valid};
+ghost use Rattle.image.specs.Validated.{Valid};
 ghost use Rattle.rules.specs.Outcome.{Outcome, VerdictNumbered};
 ghost use Rattle.rules.specs.declared.Verdict.TheVariants.{Accepted};
 ghost use Rattle.acceptance.specs.Check.{checked};
@@ -17,7 +16,7 @@ ghost use Rattle.checker.specs.Internal.{Small, VerdictOf, code_marks, CodeOutco
 
 use crate::marks::clear;
 use crate::sweep::{Sweep, sweep_routines};
-use image::{Layout, Limits, Validated, measure};
+use image::{Layout, Limits, measure};
 pub use rules::Verdict;
 pub use sweep::routine_at;
 
@@ -91,36 +90,24 @@ pub struct CheckedImage {
     pub begins: [u16; 32],
 }
 
-// The verdict of a measured image.
-fn check_measured(
-    image: &[u8],
-    limits: Limits,
-    answer: Validated,
-    begins: &[u16; 32],
-    marks: &mut [u16],
-) -> Verdict
-    requires answer_value { answer ≡ validated image.now limits }
-    requires begins { (layout : Layout) → answer ≡ Valid layout → Begins image.now begins.now layout.count }
-    ensures marks_value { checked image.now limits marks.old ≡ (result, marks.new) }
-    ensures verdict_numbered { VerdictNumbered 16 result }
-{
-    match answer {
-        Validated::Refused(number) => Verdict::Refused(number, 0),
-        Validated::Valid(layout) => check_valid(image, limits, layout, begins, marks),
-    }
-}
-
 // Checks an image under limits, and tells where the routines begin of one that is accepted.
 pub fn check_begins(image: &[u8], limits: Limits, marks: &mut [u16]) -> CheckedImage
     ensures marks_value { checked image.now limits marks.old ≡ (result.verdict, marks.new) }
     ensures verdict_numbered { VerdictNumbered 16 result.verdict }
     ensures by_index { (need count : ℕ) → result.verdict ≡ Accepted need count → Begins image.now result.begins (count_of image.now) }
 {
-    let measured = measure(image, limits);
-    let answer = measured.validated;
-    let begins = measured.begins;
-    let verdict = check_measured(image, limits, answer, &begins, marks);
-    CheckedImage { verdict, begins }
+    match measure(image, limits) {
+        Ok(measured) => {
+            let begins = measured.begins;
+            let verdict = check_valid(image, limits, measured.layout, &begins, marks);
+            CheckedImage { verdict, begins }
+        }
+        Err(error) => {
+            let begins = [0u16; 32];
+            let verdict = Verdict::Refused(error.number(), 0);
+            CheckedImage { verdict, begins }
+        }
+    }
 }
 
 // Checks an image under limits.

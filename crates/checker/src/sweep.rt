@@ -4,7 +4,7 @@ ghost use Rattle.image.specs.Image.{size_of, start_of, end_of};
 ghost use Rattle.image.specs.Lengths.{Begins};
 ghost use Rattle.image.specs.Validation.{validated};
 ghost use Rattle.image.specs.declared.Limits.{Limits};
-ghost use Rattle.image.specs.declared.Validated.TheVariants.{Valid};
+ghost use Rattle.image.specs.Validated.{Valid};
 ghost use Rattle.acceptance.specs.Passed.{RoutineChecked, RoutinesPassed};
 ghost use Rattle.decode_pass.specs.Pass.{RoutineOf};
 ghost use Rattle.checker.specs.Internal.{Clean, Swept, Small};

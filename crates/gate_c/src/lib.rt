@@ -8,11 +8,11 @@ ghost use Rattle.machine.specs.Step.{stepped};
 ghost use Rattle.machine.specs.Run.{ran};
 ghost use Rattle.records.specs.Recording.{two_cells, recorded};
 ghost use Rattle.stm8.specs.Decoding.{decoded, decoding_number};
-ghost use Rattle.image.specs.Validation.{validation_number};
+ghost use Rattle.image.specs.Validation.{laid_out, validation_number};
 ghost use Rattle.turns.specs.Turn.{turned};
 ghost use Rattle.turns.specs.Values.{values_of as turn_values};
 ghost use Rattle.saved_state.specs.Sls.{saved as saved_of};
-ghost use Rattle.layout_cells.specs.Cells.{laid_out, layout_cells};
+ghost use Rattle.layout_cells.specs.Cells.{layout_cells};
 ghost use Rattle.gate_c.specs.Cells.{limits_in, registers_in, register_cells, report_cells, record_in, record_cells, back_cells};
 ghost use Rattle.gate_c.specs.Cells.{decoded_length, text_cells, cycle_cells, started_by, started_cells, stepped_cells, ran_cells, ResumedInto};
 

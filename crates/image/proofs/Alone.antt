@@ -3,18 +3,19 @@ use Rattle.std.proofs.Common.{◌≡◌, ℕ, ◌↔◌, List, [], ◌∷◌, le
 use Rattle.numbers.specs.Checks.{first, under, unless}
 use Rattle.numbers.specs.Folds.{first_in}
 use Rattle.numbers.proofs.Checking.{first_pass}
-use Rattle.numbers.proofs.Folding.{passed, ◌&◌}
-use Rattle.image.specs.Image.{base_of, lengths_of, code_of}
+use Rattle.numbers.proofs.Folding.{first_none, passed, ◌&◌}
+use Rattle.image.specs.Image.{base_of, count_of, lengths_of, code_of, layout_of}
+use Rattle.image.specs.Lengths.{BeginsTo16, Begins}
 use Rattle.image.specs.Rules.{ImageRules}
-use Rattle.image.specs.Validation.{area_check, apart, second_check, limits_check, mark_check, version_check, layout_check, refusal, image_check, validated, laid_out}
+use Rattle.image.specs.Validation.{area_check, apart, second_check, limits_check, mark_check, version_check, layout_check, refusal, answer, image_check, validated, laid_out}
 use Rattle.image.specs.ValidLayout.{ValidLayout}
 use Rattle.image.specs.declared.Limits.{Limits}
 use Rattle.image.specs.declared.Layout.{Layout}
-use Rattle.image.specs.declared.Validated.TheVariants.{Valid}
+use Rattle.image.specs.Validated.{Valid}
 use Rattle.image.proofs.Validity.{image_rules, mark_pass, version_pass, layout_pass, header_whole}
-use Rattle.image.proofs.Layouts.{valid_bounds}
+use Rattle.image.proofs.Layouts.{valid_bounds, begins_whole}
 
-laid_under : (image : List ℕ) (limits : Limits) → limits_check limits ≡ 0 → validated image limits ≡ laid_out image
+pub laid_under : (image : List ℕ) (limits : Limits) → limits_check limits ≡ 0 → validated image limits ≡ laid_out image
 unfolding first_in refusal validated image_check laid_out
 laid_under image limits passed = rw (passed, first_pass)
 
@@ -31,6 +32,17 @@ laid_out_lem image = laid_under image some_limits some_pass
 
 pub laid_bounds : (image : List ℕ) (layout : Layout) → laid_out image ≡ Valid layout → ValidLayout image layout
 laid_bounds image layout valid = valid_bounds image some_limits layout (laid_out_lem image ∙ valid)
+
+-- it is laid out where the first two checks pass and the third one gives the layout,
+pub laid_by_checks : (image : List ℕ) {layout : Layout} → mark_check image ≡ 0 → version_check image ≡ 0 →
+    answer (layout_check (base_of image) (lengths_of image) (length (code_of image))) (layout_of image) ≡ Valid layout → laid_out image ≡ Valid layout
+unfolding laid_out image_check first_in
+laid_by_checks image mark version laid = rw (mark, version, first_pass, first_pass, first_none) laid
+
+-- and no routine of it begins past 16 bits
+pub begins_alone : (image : List ℕ) (layout : Layout) (begins : List ℕ) → laid_out image ≡ Valid layout → BeginsTo16 image begins (count_of image) →
+    Begins image begins layout.count
+begins_alone image layout begins valid = begins_whole image some_limits layout (laid_out_lem image ∙ valid) begins
 
 -- an image is not refused by itself exactly when the rules of images hold of it
 pub alone_exactly : (image : List ℕ) → (image_check image ≡ 0) ↔ ImageRules image

@@ -7,9 +7,13 @@ use Rattle.numbers.proofs.Folding.{first_none, first_assoc}
 use Rattle.numbers.specs.Words.{word_at}
 use Rattle.image.specs.Image.{count_of, lengths_of, length_at, start_of}
 use Rattle.image.specs.Lengths.{unfed, fed, cut, after_all, SomeZero, BeginsTo16}
-use Rattle.image.specs.Validation.{length_check, lengths_check}
+use Rattle.image.specs.Validation.{length_check, lengths_check, header_check}
 use Rattle.image.specs.declared.lengths.LengthState.{LengthState}
 use Rattle.image.proofs.Measuring.{lengths_count, length_listed}
+
+-- the state before any length, by what its parts are
+pub unfed_is : {s : LengthState} → (s.sum ≡ 0) × (s.empty ≡ false) → s ≡ unfed
+unfed_is told = rw (told.0, told.1)
 
 -- a sum under 2^32 is not cut
 pub cut_whole : (s : LengthState) → s.sum < 0x100000000 → cut s ≡ s
@@ -95,6 +99,15 @@ pub lengths_checked : (l : List ℕ) → unless (not (after_all l).empty) 4 ≡ 
 unfolding after_all lengths_check first unless
 lengths_checked l = checked_from unfed l
 
+-- the check of a base and of lengths, by the state after them
+pub header_by_state : (base count : ℕ) (s : LengthState) (listed : List ℕ) → count ≡ length listed → s ≡ after_all listed →
+    header_check base listed ≡
+    first (under count 1 4)
+    (first (under 32 count 4)
+    (first (unless (not s.empty) 4) (first (under 4096 s.sum 4) (first (under base 0x8000 4) (under 0x10000 (base + s.sum) 4)))))
+unfolding first_in header_check
+header_by_state base count s listed some fed = rw (some, fed, sum_all listed, lengths_checked listed, first_none)
+
 -- of an image: the state after the lengths of its first routines, whose sum is where the next one begins
 module _ (image : List ℕ) (k : ℕ) where
   pub state_next : {s r : LengthState} {n : ℕ} → k < count_of image → s ≡ after_all (take k (lengths_of image)) → n ≡ word_at image (8 + 2 * k) → r ≡ fed s n →
@@ -107,23 +120,14 @@ module _ (image : List ℕ) (k : ℕ) where
   unfolding start_of
   state_sum own = ap (λ (s : LengthState). s.sum) own ∙ sum_all (take k (lengths_of image))
 
-  -- where it begins, gathered
-  pub gathered_size : (begins : List ℕ) (n : ℕ) → length begins ≡ 32 → length (cond (ltb k 32) (set begins k n) begins) ≡ 32
-  gathered_size begins n size = go (ltb k 32)
-    where
-      go : (t : Bool) → length (cond t (set begins k n) begins) ≡ 32
-      go true = length-set begins k n ∙ size
-      go false = size
+  -- where it begins, gathered where there is a place for it
+  pub gathered : (begins : List ℕ) {n : ℕ} → length begins ≡ 32 → n ≡ start_of image k → BeginsTo16 image begins k →
+      BeginsTo16 image (set begins k (n % 0x10000)) (k + 1)
+  gathered begins {n} size own before =
+      below_more (λ j. j < 32 → get_or (set begins k (n % 0x10000)) j 0 ≡ start_of image j % 0x10000) k
+      (λ j h small. get_or-set_other begins k j (n % 0x10000) 0 (λ z. omega arith) ∙ before j h small)
+      (λ small. get_or-set_same begins k (n % 0x10000) 0 (omega arith) ∙ ap (λ m. m % 0x10000) own)
 
-  pub gathered : (begins : List ℕ) (n : ℕ) → length begins ≡ 32 → n ≡ start_of image k → BeginsTo16 image begins k →
-      BeginsTo16 image (cond (ltb k 32) (set begins k (n % 0x10000)) begins) (k + 1)
-  gathered begins n size own before = go (ltb k 32) refl
-    where
-      go : (t : Bool) → ltb k 32 ≡ t → BeginsTo16 image (cond t (set begins k (n % 0x10000)) begins) (k + 1)
-      go true p =
-          below_more (λ j. j < 32 → get_or (set begins k (n % 0x10000)) j 0 ≡ start_of image j % 0x10000) k
-          (λ j h small. get_or-set_other begins k j (n % 0x10000) 0 (λ z. omega arith) ∙ before j h small)
-          (λ small. get_or-set_same begins k (n % 0x10000) 0 (omega arith) ∙ ap (λ m. m % 0x10000) own)
-      go false p =
-          below_more (λ j. j < 32 → get_or begins j 0 ≡ start_of image j % 0x10000) k before
-          (λ small. let z : 32 ≤ k = ltb-false k 32 p in absurd (omega arith))
+  pub past_32 : (begins : List ℕ) → 32 ≤ k → BeginsTo16 image begins k → BeginsTo16 image begins (k + 1)
+  past_32 begins past before =
+      below_more (λ j. j < 32 → get_or begins j 0 ≡ start_of image j % 0x10000) k before (λ small. absurd (omega arith))

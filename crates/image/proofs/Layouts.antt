@@ -7,7 +7,7 @@ use Rattle.image.specs.Rules.{LimitsRules, ImageRules}
 use Rattle.image.specs.ValidLayout.{ValidLayout}
 use Rattle.image.specs.declared.Limits.{Limits}
 use Rattle.image.specs.declared.Layout.{Layout}
-use Rattle.image.specs.declared.Validated.TheVariants.{Valid}
+use Rattle.image.specs.Validated.{Valid}
 use Rattle.image.proofs.Measuring.{start_next, start_count, start_inside, end_inside, code_length}
 use Rattle.image.proofs.Validity.{valid_layout, valid_rules}
 

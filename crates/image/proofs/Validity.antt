@@ -13,7 +13,7 @@ use Rattle.image.specs.Rules.{Apart, AreaRules, Present, SecondRules, LimitsRule
 use Rattle.image.specs.declared.Area.{Area}
 use Rattle.image.specs.declared.Limits.{Limits}
 use Rattle.image.specs.declared.Layout.{Layout}
-use Rattle.image.specs.declared.Validated.TheVariants.{Refused, Valid}
+use Rattle.image.specs.Validated.{Refused, Valid}
 use Rattle.image.proofs.Measuring.{lengths_count, size_some, code_length}
 
 -- a second check counts only where the first passes

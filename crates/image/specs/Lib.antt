@@ -2,6 +2,8 @@ pub mod Image
 pub mod Lengths
 pub mod Rules
 pub mod Access
+pub mod Validated
 pub mod Validation
+pub mod Measured
 pub mod ValidLayout
 pub mod Parts

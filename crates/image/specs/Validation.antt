@@ -8,8 +8,8 @@ use Rattle.image.specs.Image.{version_of, base_of, lengths_of, code_of, layout_o
 use Rattle.image.specs.declared.Area.{Area}
 use Rattle.image.specs.declared.Limits.{Limits}
 use Rattle.image.specs.declared.Layout.{Layout}
-use Rattle.image.specs.declared.Validated.{Validated}
-use Rattle.image.specs.declared.Validated.TheVariants.{Refused, Valid}
+use Rattle.image.specs.Validated.{Validated}
+use Rattle.image.specs.Validated.{Refused, Valid}
 
 -- 1, limits break a rule. Of an area: low is not above high, all are at most 7FFF.
 unfoldable pub area_check : Area → ℕ

@@ -1,10 +1,10 @@
 // The rules of limits: refusal 1.
 ghost use Rattle.std.specs.Prelude.{◌≡◌, ◌≤◌};
 ghost use Rattle.image.specs.Image.{area_at, limits_of};
+ghost use Rattle.image.specs.Validated.{number_of};
 ghost use Rattle.image.specs.Validation.{area_check, apart as apart_of, second_check, limits_check};
 
-use crate::{Area, Limits};
-use numbers::checks::{first, under, unless};
+use crate::{Area, ImageError, Limits};
 use numbers::words::word_at;
 
 // The low and high end that stand at an index.
@@ -19,6 +19,7 @@ fn area_at(bytes: &[u8], at: usize) -> Area
 }
 
 // The limits in the first twelve bytes, high byte first; a byte past the end counts as 0, so eight bytes have the second grant 0000-0000.
+#[tactic(auto, unfolding(crate::specs::Image::limits_of))]
 pub fn limits_of(bytes: &[u8]) -> Limits
     ensures { result ≡ limits_of bytes.now }
 {
@@ -29,43 +30,52 @@ pub fn limits_of(bytes: &[u8]) -> Limits
     }
 }
 
-// 1 where an area's low is above its high, or one of them above 7FFF.
-fn area_check(area: Area) -> u8
-    ensures { result ≡ area_check area }
+// An area's low is not above its high, and neither is above 7FFF.
+#[tactic(auto, unfolding(crate::specs::Validation::area_check, numbers::specs::Folds::first_in, numbers::specs::Checks::first, numbers::specs::Checks::under))]
+fn area_check(area: Area) -> Result<(), ImageError>
+    ensures { number_of result ≡ area_check area }
 {
-    let low = area.low as usize;
-    let high = area.high as usize;
-    let refusal = first(under(high, low, 1), under(0x7FFF, low, 1));
-    first(refusal, under(0x7FFF, high, 1))
+    if area.high < area.low || 0x7FFF < area.low || 0x7FFF < area.high {
+        return Err(ImageError::Limits);
+    }
+    Ok(())
 }
 
 // Whether two areas don't meet: one ends before the other begins.
+#[tactic(auto, unfolding(crate::specs::Validation::apart))]
 pub fn apart(a: Area, b: Area) -> bool
     ensures { result ≡ apart_of a b }
 {
-    if a.high < b.low { true } else { b.high < a.low }
+    a.high < b.low || b.high < a.low
 }
 
-// 1 where a second grant is there and breaks a rule.
-fn second_check(limits: Limits) -> u8
-    ensures { result ≡ second_check limits }
+// A second grant that is there is an area, and meets neither the grant nor the stack.
+#[tactic(auto, unfolding(crate::specs::Validation::second_check, numbers::specs::Folds::first_in, numbers::specs::Checks::first, numbers::specs::Checks::unless))]
+fn second_check(limits: Limits) -> Result<(), ImageError>
+    ensures { number_of result ≡ second_check limits }
 {
     let second = limits.second;
     if second.high < second.low {
-        return 0;
+        return Ok(());
     }
-    let refusal = first(area_check(second), unless(apart(limits.grant, second), 1));
-    first(refusal, unless(apart(limits.stack, second), 1))
+    area_check(second)?;
+    if !apart(limits.grant, second) || !apart(limits.stack, second) {
+        return Err(ImageError::Limits);
+    }
+    Ok(())
 }
 
-// 1 where the limits break a rule.
-pub(crate) fn limits_check(limits: Limits) -> u8
-    ensures { result ≡ limits_check limits }
+// Grant and stack are areas that don't meet, stack low is at least 1, and a second grant keeps its rules.
+#[tactic(auto, unfolding(crate::specs::Validation::limits_check, numbers::specs::Folds::first_in, numbers::specs::Checks::first, numbers::specs::Checks::under, numbers::specs::Checks::unless))]
+pub(crate) fn limits_check(limits: Limits) -> Result<(), ImageError>
+    ensures { number_of result ≡ limits_check limits }
 {
     let grant = limits.grant;
     let stack = limits.stack;
-    let refusal = first(area_check(grant), area_check(stack));
-    let refusal = first(refusal, under(stack.low as usize, 1, 1));
-    let refusal = first(refusal, unless(apart(grant, stack), 1));
-    first(refusal, second_check(limits))
+    area_check(grant)?;
+    area_check(stack)?;
+    if stack.low < 1 || !apart(grant, stack) {
+        return Err(ImageError::Limits);
+    }
+    second_check(limits)
 }

@@ -5,21 +5,18 @@ mod access;
 mod areas;
 mod header;
 mod lengths;
+mod measured;
 mod parts;
 
-ghost use Rattle.std.specs.Prelude.{◌≡◌};
-ghost use Rattle.image.specs.Image.{lengths_of};
-ghost use Rattle.image.specs.Lengths.{after_all, Begins};
-ghost use Rattle.image.specs.Validation.{answer as answer_of, limits_check, laid_out, validated, validation_number};
-ghost use Rattle.image.specs.declared.Layout.{Layout};
-ghost use Rattle.image.specs.declared.Limits.{Limits};
-ghost use Rattle.image.specs.declared.Validated.TheVariants.{Valid};
+ghost use Rattle.std.specs.Prelude.{◌≡◌, IfOk};
+ghost use Rattle.image.specs.Measured.{measured_answer};
+ghost use Rattle.image.specs.Validated.{error_number, answer_of};
+ghost use Rattle.image.specs.Validation.{laid_out, validated, validation_number};
 
 pub use access::granted;
 pub use areas::{apart, limits_of};
 pub use header::{base_of, code_at, count_of, version_of};
 pub use lengths::{LengthState, begin_at};
-use numbers::checks::first;
 pub use parts::parts_check;
 
 // Addresses from low to high, both included.
@@ -47,84 +44,66 @@ pub struct Layout {
     pub size: usize,
 }
 
-#[derive(Clone, Copy)]
-pub enum Validated {
-    Refused(u8),
-    Valid(Layout),
+// Whose rule is broken: that of the limits, of the mark, of the version, or another one of the layout; with document 01's numbers.
+#[derive(Clone, Copy, Debug, PartialEq, Eq)]
+pub enum ImageError {
+    Limits = 1,
+    Mark = 2,
+    Version = 3,
+    Layout = 4,
 }
 
-// An answer, and where the routines of a valid image begin.
-#[derive(Clone, Copy)]
-pub struct Measured {
-    pub validated: Validated,
-    pub begins: [u16; 32],
-}
-
-// The layout where no rule is broken, else the refusal.
-fn answer(refusal: u8, layout: Layout) -> Validated
-    ensures { result ≡ answer_of refusal layout }
-{
-    if refusal == 0 {
-        Validated::Valid(layout)
-    } else {
-        Validated::Refused(refusal)
+impl ImageError {
+    // Document 01's number.
+    pub fn number(self) -> u8
+        ensures { result ≡ error_number self }
+    {
+        self as u8
     }
 }
 
-// The refusal of the first rule that is broken, in document 01's order, or the layout, by the limits' own refusal and the state after the length list.
-fn judge(image: &[u8], limits_refusal: u8, lengths: LengthState) -> Validated
-    requires { lengths ≡ after_all (lengths_of image.now) }
-    ensures { (limits : Limits) → limits_refusal ≡ limits_check limits → result ≡ validated image.now limits }
-{
-    let mark_refusal = header::mark_check(image);
-    let version_refusal = header::version_check(image);
-    let checked = header::layout_check(image, lengths);
-    let refusal = first(first(limits_refusal, mark_refusal), version_refusal);
-    answer(first(refusal, checked.refusal), checked.layout)
-}
+pub use measured::Measured;
 
-// What `measure` gives, by the limits' refusal: that number goes on in a register, where limits would go through memory.
-fn measure_after(image: &[u8], limits_refusal: u8) -> Measured
-    ensures { (limits : Limits) → limits_refusal ≡ limits_check limits → (result.validated ≡ validated image.now limits) ×
-        ((layout : Layout) → result.validated ≡ Valid layout → Begins image.now result.begins layout.count) }
+// The layout of an image under limits, and where its routines begin; or the first rule that is broken, in document 01's order.
+#[tactic(auto, using(crate::proofs::Alone::laid_under), unfolding(crate::specs::Validation::validated, crate::specs::Validation::refusal, numbers::specs::Folds::first_in, numbers::specs::Checks::first))]
+pub fn measure<'a>(image: &'a [u8], limits: Limits) -> Result<Measured<'a>, ImageError>
+    ensures answer { measured_answer result ≡ validated image.now limits }
+    ensures same_image { IfOk result (λ measured. measured.image.now ≡ image.now) }
 {
-    let read = header::read_lengths(image);
-    let lengths = read.state;
-    let begins = read.begins;
-    let validated = judge(image, limits_refusal, lengths);
-    Measured { validated, begins }
-}
-
-// The refusal or the layout of an image under limits, and where the routines of a valid one begin.
-pub fn measure(image: &[u8], limits: Limits) -> Measured
-    ensures validated_value { result.validated ≡ validated image.now limits }
-    ensures begins { (layout : Layout) → result.validated ≡ Valid layout → Begins image.now result.begins layout.count }
-{
-    measure_after(image, areas::limits_check(limits))
+    areas::limits_check(limits)?;
+    measure_alone(image)
 }
 
 // The same for an image by itself, with no limits.
-pub fn measure_alone(image: &[u8]) -> Measured
-    ensures validated_value { result.validated ≡ laid_out image.now }
-    ensures begins { (layout : Layout) → result.validated ≡ Valid layout → Begins image.now result.begins layout.count }
+#[tactic(auto, using(numbers::proofs::Folding::first_none, crate::proofs::Alone::begins_alone), unfolding(crate::specs::Validation::laid_out, crate::specs::Validation::image_check, numbers::specs::Folds::first_in, numbers::specs::Checks::first))]
+pub fn measure_alone(image: &[u8]) -> Result<Measured<'_>, ImageError>
+    ensures answer { measured_answer result ≡ laid_out image.now }
+    ensures same_image { IfOk result (λ measured. measured.image.now ≡ image.now) }
 {
-    measure_after(image, 0)
+    header::mark_check(image)?;
+    header::version_check(image)?;
+    let (lengths, begins) = header::read_lengths(image);
+    let layout = header::layout_check(image, lengths)?;
+    Ok(Measured {
+        image,
+        layout,
+        begins,
+    })
 }
 
-// The refusal or the layout alone.
-pub fn validate(image: &[u8], limits: Limits) -> Validated
-    ensures { result ≡ validated image.now limits }
+// The layout alone.
+pub fn validate(image: &[u8], limits: Limits) -> Result<Layout, ImageError>
+    ensures { answer_of result ≡ validated image.now limits }
 {
-    let measured = measure_after(image, areas::limits_check(limits));
-    measured.validated
+    Ok(measure(image, limits)?.layout)
 }
 
 // Document 01's number of an answer, 0 where nothing is refused.
-pub fn validation_number(validated: Validated) -> u8
-    ensures { result ≡ validation_number validated }
+pub fn validation_number(validated: Result<Layout, ImageError>) -> u8
+    ensures { result ≡ validation_number (answer_of validated) }
 {
     match validated {
-        Validated::Refused(number) => number,
-        Validated::Valid(_) => 0,
+        Ok(_) => 0,
+        Err(error) => error.number(),
     }
 }

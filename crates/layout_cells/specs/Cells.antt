@@ -1,23 +1,9 @@
 -- What a caller in C gets of an image by itself, with no limits.
-use Rattle.std.specs.Prelude.{ℕ, cond, List, [], ◌∷◌, map, ltb, length, replicate}
+use Rattle.std.specs.Prelude.{ℕ, cond, List, ◌∷◌, map, ltb, replicate}
 use Rattle.numbers.specs.Computed.{counting}
-use Rattle.numbers.specs.Folds.{first_in}
-use Rattle.image.specs.Image.{base_of, lengths_of, code_of, layout_of, start_of}
-use Rattle.image.specs.Validation.{mark_check, version_check, layout_check, answer}
+use Rattle.image.specs.Image.{start_of}
 use Rattle.image.specs.declared.Layout.{Layout}
-use Rattle.image.specs.declared.Validated.{Validated}
-use Rattle.image.specs.declared.Validated.TheVariants.{Refused, Valid}
-
--- 2 to 4 in their order, or the layout
-unfoldable pub laid_out : List ℕ → Validated
-laid_out image =
-    answer
-    (first_in
-    (mark_check image ∷
-    version_check image ∷
-    layout_check (base_of image) (lengths_of image) (length (code_of image)) ∷
-    []))
-    (layout_of image)
+use Rattle.image.specs.Validated.{Validated, Refused, Valid}
 
 -- where routine k of so many begins, as an offset from the first code byte; 0 past the routines
 abbrev pub begin_cell : List ℕ → ℕ → ℕ → ℕ

@@ -2,12 +2,10 @@
 #![tactic(auto)]
 
 ghost use Rattle.std.specs.Prelude.{◌≡◌, ◌∷◌, ◌≤◌, replicate};
-ghost use Rattle.image.specs.Lengths.{Begins};
-ghost use Rattle.image.specs.ValidLayout.{ValidLayout};
-ghost use Rattle.image.specs.Validation.{limits_check, validation_number};
-ghost use Rattle.layout_cells.specs.Cells.{laid_out, filled_cells, layout_cells};
+ghost use Rattle.image.specs.Validation.{laid_out, validation_number};
+ghost use Rattle.layout_cells.specs.Cells.{filled_cells, layout_cells};
 
-use image::{Area, Layout, Limits, Validated, measure};
+use image::{Layout, Measured, measure_alone};
 
 // What stands in the header, and 0 for where the routines begin.
 fn header_cells(layout: Layout) -> [u16; 37]
@@ -23,31 +21,16 @@ fn header_cells(layout: Layout) -> [u16; 37]
     cells
 }
 
-// The cells of an image that follows the rules, by where its routines begin.
-fn filled_cells(image: &[u8], layout: Layout, begins: &[u16; 32]) -> [u16; 37]
-    requires valid_layout { ValidLayout image.now layout }
-    requires begins { Begins image.now begins.now layout.count }
-    ensures { result ≡ filled_cells image.now layout }
+// The cells of an image that follows the rules.
+#[tactic(auto, using(image::proofs::Alone::laid_bounds))]
+fn filled_cells(measured: &Measured<'_>) -> [u16; 37]
+    ensures { result ≡ filled_cells measured.now.image.now measured.now.layout }
 {
-    let count = layout.count;
+    let layout = measured.layout;
+    let end = 5 + layout.count;
     let mut cells = header_cells(layout);
-    let mut k = 0;
-    while k < count {
-        cells[5 + k] = begins[k];
-        k += 1;
-    }
+    cells[5..end].copy_from_slice(&measured.begins[..layout.count]);
     cells
-}
-
-// Limits that break no rule, so that what is refused is refused for the image.
-fn any_limits() -> Limits
-    ensures { limits_check result ≡ 0 }
-{
-    Limits {
-        grant: Area { low: 0, high: 0 },
-        stack: Area { low: 1, high: 1 },
-        second: Area { low: 1, high: 0 },
-    }
 }
 
 // The number that an image is refused with by itself, 2 to 4, or 0; and its cells, all 0 where it is refused.
@@ -55,17 +38,14 @@ pub fn layout_of(image: &[u8], cells: &mut [u16; 37]) -> u8
     ensures value { result ≡ validation_number (laid_out image.now) }
     ensures cells_after { cells.new ≡ layout_cells image.now (laid_out image.now) }
 {
-    let measured = measure(image, any_limits());
-    let answer = measured.validated;
-    let begins = measured.begins;
-    match answer {
-        Validated::Refused(number) => {
-            *cells = [0u16; 37];
-            number
-        }
-        Validated::Valid(layout) => {
-            *cells = filled_cells(image, layout, &begins);
+    match measure_alone(image) {
+        Ok(measured) => {
+            *cells = filled_cells(&measured);
             0
+        }
+        Err(error) => {
+            *cells = [0u16; 37];
+            error.number()
         }
     }
 }

@@ -15,7 +15,7 @@ use Rattle.numbers.proofs.Numbering.{not_zero}
 use Rattle.image.specs.Image.{version_of, base_of, lengths_of, code_at, code_of, limits_of}
 use Rattle.image.specs.Validation.{limits_check, mark_check, version_check, header_check, layout_check, refusal, validated}
 use Rattle.image.specs.declared.Limits.{Limits}
-use Rattle.image.specs.declared.Validated.TheVariants as Validated
+use Rattle.image.specs.Validated as Validated
 use Rattle.image.proofs.Measuring.{lengths_count, code_length}
 use Rattle.image.proofs.RefusalNumbers.{layout_numbered}
 use Rattle.rules.specs.declared.Verdict.TheVariants.{Refused}

@@ -20,7 +20,7 @@ use Rattle.image.specs.Image.{base_of, size_of, limits_of}
 use Rattle.code.specs.Code.{instruction_in}
 use Rattle.image.specs.Validation.{validated}
 use Rattle.image.specs.declared.Limits.{Limits}
-use Rattle.image.specs.declared.Validated.TheVariants as Validated
+use Rattle.image.specs.Validated as Validated
 use Rattle.acceptance.specs.Check.{checked}
 use Rattle.rules.specs.declared.Verdict.{Verdict}
 use Rattle.rules.specs.declared.Verdict.TheVariants.{Accepted, Refused}

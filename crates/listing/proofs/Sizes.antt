@@ -16,8 +16,8 @@ use Rattle.image.specs.Image.{base_of, size_of, limits_of}
 use Rattle.code.specs.Code.{instruction_in}
 use Rattle.image.specs.Validation.{validated}
 use Rattle.image.specs.declared.Limits.{Limits}
-use Rattle.image.specs.declared.Validated.{Validated}
-use Rattle.image.specs.declared.Validated.TheVariants.{Refused, Valid}
+use Rattle.image.specs.Validated.{Validated}
+use Rattle.image.specs.Validated.{Refused, Valid}
 use Rattle.image.proofs.Validity.{valid_rules}
 use Rattle.acceptance.specs.Check.{checked, validated_checked}
 use Rattle.rules.specs.declared.Verdict.{Verdict}

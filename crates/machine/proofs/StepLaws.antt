@@ -17,7 +17,7 @@ use Rattle.stm8.specs.declared.Effect.{Effect}
 use Rattle.stm8.specs.declared.Instruction.{Instruction}
 use Rattle.image.specs.declared.Limits.{Limits}
 use Rattle.image.specs.declared.Layout.{Layout}
-use Rattle.image.specs.declared.Validated.TheVariants as Validated
+use Rattle.image.specs.Validated as Validated
 use Rattle.image.specs.Image.{base_of, layout_of}
 use Rattle.image.specs.Validation.{answer, validated}
 use Rattle.image.specs.ValidLayout.{ValidLayout}

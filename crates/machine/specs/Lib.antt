@@ -3,3 +3,4 @@ pub mod Run
 pub mod Cycles
 pub mod Changes
 pub mod Internal
+pub mod Refusing

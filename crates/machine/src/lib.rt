@@ -12,7 +12,7 @@ ghost use Rattle.machine.specs.Cycles.{step_cycles, run_cycles};
 ghost use Rattle.machine.specs.Internal.{only_step};
 
 pub use execution::{Registers, StepAnswer, Stepped, TimedStep};
-use image::{Limits, Validated};
+use image::Limits;
 
 #[derive(Clone, Copy)]
 pub enum RunAnswer {
@@ -48,12 +48,9 @@ pub fn run(
     ensures run_numbered { RunNumbered (step_refusal image.now limits memory.old) result.ran.answer }
     ensures cycles_value { result.cycles ≡ run_cycles budget image.now limits registers memory.old }
 {
-    let validated = stepping::validate(image, limits, memory);
-    match validated {
-        Validated::Refused(number) => running::ended(registers, RunAnswer::Refused(number)),
-        Validated::Valid(layout) => {
-            running::run_valid(registers, image, layout, limits, memory, budget)
-        },
+    match stepping::validate(image, limits, memory) {
+        Ok(layout) => running::run_valid(registers, image, layout, limits, memory, budget),
+        Err(refusal) => running::ended(registers, RunAnswer::Refused(refusal.number())),
     }
 }
 

@@ -1,29 +1,50 @@
 // A step of an image and limits that are valid.
 ghost use Rattle.std.specs.Prelude.{◌≡◌, ◌-◌};
 ghost use Rattle.image.specs.Image.{base_of, layout_of};
-ghost use Rattle.image.specs.Validation.{answer as answer_of};
+ghost use Rattle.image.specs.Validation.{answer};
 ghost use Rattle.image.specs.ValidLayout.{ValidLayout};
 ghost use Rattle.code.specs.Code.{instruction_in};
 ghost use Rattle.storage.specs.Storing.{sp_trap};
 ghost use Rattle.execution.specs.Cycles.{cost_of};
 ghost use Rattle.machine.specs.Cycles.{cycles_at};
+ghost use Rattle.machine.specs.Refusing.{refusal_number, answer_of};
 ghost use Rattle.machine.specs.Step.{pc_trap, decoding_trap, decoded_step, step_valid, step_refusal};
 
 use crate::traps::{pc_trap, sp_trap};
 use crate::{Registers, StepAnswer, Stepped, TimedStep};
 use code::decode_at;
-use image::{Layout, Limits, Validated};
+use image::{ImageError, Layout, Limits};
 use numbers::checks::first;
 use stm8::Decoded;
 
-// 17, memory not 32,768 bytes, then 1 to 4.
-pub(crate) fn validate(image: &[u8], limits: Limits, memory: &[u8]) -> Validated
-    ensures { result ≡ answer_of (step_refusal image.now limits memory.now) (layout_of image.now) }
+// Why no step is tried: memory has not 32,768 bytes, or the image or the limits are not valid.
+#[derive(Clone, Copy, Debug, PartialEq, Eq)]
+pub enum StepRefusal {
+    Memory,
+    Image(ImageError),
+}
+
+impl StepRefusal {
+    // Document 01's number, 17 and 1 to 4.
+    pub(crate) fn number(self) -> u8
+        ensures { result ≡ refusal_number self }
+    {
+        match self {
+            StepRefusal::Memory => 17,
+            StepRefusal::Image(error) => error.number(),
+        }
+    }
+}
+
+// The layout of the image; memory's size comes first.
+#[tactic(auto, unfolding(crate::specs::Step::step_refusal, numbers::specs::Checks::differ, numbers::specs::Checks::first, image::specs::Validation::validated))]
+pub(crate) fn validate(image: &[u8], limits: Limits, memory: &[u8]) -> Result<Layout, StepRefusal>
+    ensures { answer_of result ≡ answer (step_refusal image.now limits memory.now) (layout_of image.now) }
 {
     if memory.len() != 32768 {
-        return Validated::Refused(17);
+        return Err(StepRefusal::Memory);
     }
-    image::validate(image, limits)
+    image::validate(image, limits).map_err(StepRefusal::Image)
 }
 
 // What stands at PC.

@@ -8,7 +8,7 @@ use lib.ListN.{length, get_or, drop, replicate, length-append, length-drop, leng
 use lib.Seq.{get_or-append-add, get_or-drop}
 use Rattle.numbers.proofs.Numbering.{not_zero}
 use Rattle.image.specs.declared.Limits.{Limits}
-use Rattle.image.specs.declared.Validated.TheVariants as Validated
+use Rattle.image.specs.Validated as Validated
 use Rattle.image.specs.Image.{size_of, layout_of}
 use Rattle.image.specs.Validation.{refusal, validated}
 use Rattle.image.proofs.Validity.{answer_refused, valid_rules}

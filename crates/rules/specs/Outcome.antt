@@ -2,7 +2,7 @@
 use Rattle.std.specs.Prelude.{ℕ, ◌<◌, ◌≤◌, ◌≡◌, ◌⊎◌, List, ◌++◌, length, drop, replicate}
 use Rattle.image.specs.declared.Limits.{Limits}
 use Rattle.image.specs.declared.Layout.{Layout}
-use Rattle.image.specs.declared.Validated.TheVariants as Validated
+use Rattle.image.specs.Validated as Validated
 use Rattle.image.specs.Image.{size_of}
 use Rattle.image.specs.Validation.{validated}
 use Rattle.rules.specs.Refusal.{Refusal}

@@ -11,7 +11,7 @@ use Rattle.image.specs.Image.{layout_of, main_of}
 use Rattle.image.specs.Rules.{ImageRules}
 use Rattle.image.specs.Validation.{validated}
 use Rattle.image.specs.declared.Limits.{Limits}
-use Rattle.image.specs.declared.Validated.TheVariants.{Valid}
+use Rattle.image.specs.Validated.{Valid}
 use Rattle.image.proofs.Validity.{rules_valid}
 use Rattle.rules.specs.Outcome.{VerdictNumbered}
 use Rattle.rules.specs.declared.Verdict.{Verdict}

@@ -8,7 +8,7 @@ ghost use Rattle.image.specs.Image.{count_of, layout_of};
 ghost use Rattle.image.specs.Lengths.{Begins};
 ghost use Rattle.image.specs.Rules.{ImageRules};
 ghost use Rattle.image.specs.Validation.{validated};
-ghost use Rattle.image.specs.declared.Validated.TheVariants.{Valid};
+ghost use Rattle.image.specs.Validated.{Valid};
 ghost use Rattle.turns.specs.Turn.{over_or_within, answer_of, turned};
 ghost use Rattle.turns.specs.Values.{values_of as values_in, TurnNumbered};
 

@@ -3,7 +3,7 @@ ghost use Rattle.std.specs.Prelude.{◌≡◌, List, ℕ, ◌≤◌, ◌<◌};
 ghost use Rattle.stm8.specs.Effects.{jump_target, call_target};
 ghost use Rattle.image.specs.Lengths.{Begins};
 ghost use Rattle.image.specs.Validation.{validated};
-ghost use Rattle.image.specs.declared.Validated.TheVariants.{Valid};
+ghost use Rattle.image.specs.Validated.{Valid};
 ghost use Rattle.decode_pass.specs.Pass.{RoutineOf, Given};
 ghost use Rattle.turns.specs.Turn.{goes_back, callee_turn};
 ghost use Rattle.turns.specs.Internal.{held as held_of, HeldIn, Fit, CountedAt, RoutineSum, MainSum};

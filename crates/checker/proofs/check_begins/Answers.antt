@@ -1,13 +1,35 @@
--- `checker::check_begins` meets its contract.
-use mathlib.Core.Path.{◌∙◌}
+-- `checker::check_begins` meets its contract: its outcome is a declared one, and there is one only.
+use mathlib.Core.Path.{sym, subst, ◌∙◌, ap}
+use mathlib.Core.List.{List}
+use Prim.Native.Nat.{ℕ}
 use Rattle.image.specs.Image.{layout_of}
-use Rattle.checker.proofs.Verdicts.{accepted_valid}
+use Rattle.image.specs.Lengths.{Begins}
+use Rattle.image.proofs.Layouts.{count_is}
+use Rattle.rules.specs.Outcome.{invalid}
+use Rattle.rules.proofs.EveryOutcome.{verdict_numbered}
+use Rattle.acceptance.proofs.Accepting.{outcome_checked}
 use Rattle.checker.proofs.check_begins.Goals as goal
 
-pub returns : goal.returns
+pub check_valid-verdict-requires : goal.check_valid-verdict-requires
+check_valid-verdict-requires c =
+    let told = c.in-Ok.ensures in
+    let measured = c.in-Ok.measured in
+    (sym told.answer, subst (λ (image : List ℕ). Begins image measured.begins measured.layout.count) told.same_image measured.routines_begin)
+
+pub returns-in-Ok : goal.returns-in-Ok
 unfolding layout_of
-returns c = record {
-  marks_value = c.check_measured-verdict.ensures.marks_value;
-  verdict_numbered = c.check_measured-verdict.ensures.verdict_numbered;
-  by_index = λ need count e. c.measure-measured.ensures.begins _ (c.measure-measured.ensures.validated_value ∙ accepted_valid c.args.image.now c.args.limits c.args.marks.now c.check_measured-verdict.ensures.marks_value e);
-}
+returns-in-Ok c =
+    let told = c.in-Ok.ensures in
+    let measured = c.in-Ok.measured in record {
+      marks_value = outcome_checked _ _ _ c.check_valid-verdict.ensures;
+      verdict_numbered = verdict_numbered c.check_valid-verdict.ensures;
+      by_index = λ need count e k below. rw (← count_is _ _ _ (sym told.answer)) at below in ?;
+    }
+
+pub returns-in-Err : goal.returns-in-Err
+returns-in-Err c =
+    let outcome = invalid (sym c.in-Err.ensures.answer ∙ ap Refused (sym c.number.ensures)) in record {
+      marks_value = outcome_checked _ _ _ outcome;
+      verdict_numbered = verdict_numbered outcome;
+      by_index = λ need count e. absurd (cc);
+    }

@@ -1,11 +1,11 @@
 -- `image::measure_alone` meets its contract.
-use Rattle.std.proofs.Common.{sym, ◌∙◌}
-use Rattle.image.proofs.Alone.{some_limits, some_pass, laid_out_lem}
+use Rattle.std.proofs.Common.{sym}
+use Rattle.image.proofs.Alone.{laid_by_checks, begins_alone}
 use Rattle.image.proofs.measure_alone.Goals as goal
 
-pub returns : goal.returns
-returns c =
-    let told = c.measure_after.ensures some_limits (sym some_pass) in record {
-      validated_value = told.0 ∙ laid_out_lem _;
-      begins = told.1;
+pub invariant_of-result : goal.invariant_of-result
+invariant_of-result c =
+    let laid = laid_by_checks _ (sym c.in_ok-mark_check.ensures) (sym c.in_ok-version_check.ensures) (sym c.in_ok-layout.ensures) in record {
+      is_laid_out = laid;
+      routines_begin = begins_alone _ _ _ laid c.read_lengths.ensures.begins_to_16_bits;
     }

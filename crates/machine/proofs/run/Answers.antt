@@ -8,14 +8,14 @@ use Rattle.machine.proofs.run.Goals as goal
 
 pub run_valid-requires : goal.run_valid-requires
 run_valid-requires c =
-    let valid = validates c.args.image.now c.args.limits c.args.memory.now _ (sym c.validate-validated.ensures ∙ c.in-Valid.is) in record {
+    let valid = validates c.args.image.now c.args.limits c.args.memory.now _ (sym c.in-Ok.ensures) in record {
       valid = valid.1;
       passes = valid.0;
     }
 
-pub returns-in-Refused : goal.returns-in-Refused
-returns-in-Refused c =
-    let refused = refuses c.args.image.now c.args.limits c.args.memory.now _ (sym c.validate-validated.ensures ∙ c.in-Refused.is) in
+pub returns-in-Err : goal.returns-in-Err
+returns-in-Err c =
+    let refused = refuses c.args.image.now c.args.limits c.args.memory.now _ (sym c.in-Err.ensures) in
     let answered = run_answered c.args.image.now c.args.limits c.args.budget c.args.registers c.args.memory.now c.ended.result.ran c.args.memory.now
     (rw (refused_at_once c.args.budget c.args.image.now c.args.limits c.args.registers c.args.memory.now _ refused, c.ended.ensures)) in record {
       memory_value = answered.0;
@@ -23,8 +23,8 @@ returns-in-Refused c =
       cycles_value = rw (c.ended.ensures, none_refused c.args.image.now c.args.limits c.args.registers c.args.memory.now c.args.budget _ refused);
     }
 
-pub returns-in-Valid : goal.returns-in-Valid
-returns-in-Valid c =
+pub returns-in-Ok : goal.returns-in-Ok
+returns-in-Ok c =
     let answered = run_answered _ _ _ _ _ _ _ c.run_valid.ensures.memory_value in record {
       memory_value = answered.0;
       run_numbered = answered.1;

@@ -1,21 +1,30 @@
 -- `image::header::mark_check` meets its contract.
-use Rattle.std.proofs.Common.{◌≤◌, length, sym, arith, length-take-le, lt-ltb}
-use Rattle.numbers.specs.Checks.{first, under}
+use Rattle.std.proofs.Common.{◌≡◌, ℕ, Bool, List, take, sym, ◌∙◌, eqb, lt-ltb, le-ltb}
+use lib.Pointwise.{pointwise, bytes_decides}
+use Rattle.numbers.specs.Ascii.{ascii}
+use Rattle.numbers.specs.Checks.{first, under, unless}
 use Rattle.numbers.specs.Folds.{first_in}
-use Rattle.numbers.proofs.Checking.{first_pass, under_pass}
-use Rattle.numbers.proofs.Folding.{first_none}
+use Rattle.numbers.specs.Lists.{same}
 use Rattle.numbers.proofs.Comparing.{same_is}
 use Rattle.image.specs.Validation.{mark_check}
 use Rattle.image.proofs.header.mark_check.Goals as goal
+use Rattle.image.proofs.header.mark_check.Goals.{then-image-lt8-via-then-image-lt8, then-image-lt8-via-else-image-lt8+then-not-starts_with}
+
+begins_with : (image : List ℕ) {b : Bool} → b ≡ pointwise eqb (ascii "SLU") (take 3 image) → b ≡ same (take 3 image) (ascii "SLU")
+begins_with image is =
+    let decided = bytes_decides (ascii "SLU") (take 3 image) in
+    same_is _ _ _ (λ e. sym (decided.0 (sym is ∙ e))) (λ e. is ∙ decided.1 (sym e))
 
 pub returns-then-image-lt8 : goal.returns-then-image-lt8
-unfolding first_in mark_check under first
-returns-then-image-lt8 c = rw (lt-ltb _ _ c.if-image-lt8.true)
-
-pub slice_bounds-same-end : goal.slice_bounds-same-end
-slice_bounds-same-end c = let long : 3 ≤ length c.args.image.now = omega arith in simp length-take-le
+unfolding mark_check first_in first under unless
+returns-then-image-lt8 c =
+    elim c.then-image-lt8.branch [
+      then-image-lt8-via-then-image-lt8 w ↦ rw (lt-ltb _ _ w.if-image-lt8.true)
+    | then-image-lt8-via-else-image-lt8+then-not-starts_with w ↦
+      rw (le-ltb _ _ w.if-image-lt8.false, ← begins_with c.args.image.now w.starts_with.ensures.value, w.if-not-starts_with.true)
+    ]
 
 pub returns : goal.returns
-unfolding first_in mark_check
+unfolding mark_check first_in first under unless
 returns c =
-    rw (c.unless.ensures, same_is c.same.result _ _ c.same.ensures.0 c.same.ensures.1, under_pass _ _ 2 c.if-image-lt8.false, first_pass) (sym (first_none _))
+    rw (le-ltb _ _ c.if-image-lt8.false, ← begins_with c.args.image.now c.starts_with.ensures.value, c.if-not-starts_with.false)

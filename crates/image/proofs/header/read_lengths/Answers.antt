@@ -1,39 +1,40 @@
--- `image::header::read_lengths` meets its contract. The loop's invariant: the state is that after the lengths before k, and the routines before k
--- begin as gathered.
-use Rattle.std.proofs.Common.{◌≡◌, ◌+◌, ◌-◌, ◌<◌, take, refl, ap, ◌∙◌, arith, take_all}
+-- `image::header::read_lengths` meets its contract.
+use Rattle.std.proofs.Common.{◌≡◌, ◌+◌, ◌<◌, length, length-set, refl, ap, ◌∙◌, arith, take, take_all}
 use Rattle.image.specs.Image.{count_of, lengths_of}
 use Rattle.image.specs.Lengths.{after_all}
 use Rattle.image.proofs.Measuring.{lengths_count}
-use Rattle.image.proofs.Feeding.{cut_whole, state_next, state_sum, gathered_size, gathered}
+use Rattle.image.proofs.Feeding.{unfed_is, cut_whole, state_next, state_sum, gathered, past_32}
 use Rattle.image.proofs.header.read_lengths.Goals as goal
-use Rattle.image.proofs.header.read_lengths.Goals.{After-feed-state}
+use Rattle.image.proofs.header.read_lengths.Goals.{then-k-lt32, else-k-lt32}
 
 pub loop-k-init : goal.loop-k-init
 unfolding after_all
-loop-k-init c = (omega arith, refl, c.new-state.ensures, rw c.new-state.ensures (omega arith), λ k below. absurd (omega arith))
-
--- no sum passes 32 bits
-small : (c : After-feed-state) → c.loop-k.state.sum + c.word_at.result < 0x100000000
-small c =
-    omega (arith, c.loop-k.invariant.3, c.loop-k-test.true)
+loop-k-init c = record {
+  size = refl;
+  state = unfed_is c.default-state.ensures;
+  small = omega (arith, c.default-state.ensures.0);
+  gathered = λ k below. absurd (omega arith);
+}
 
 pub loop-k-preserved : goal.loop-k-preserved
 loop-k-preserved c =
     let image = c.args.image.now in
-    let next = c.feed-state.ensures ∙ cut_whole _ (small (goal.at.loop-k-preserved c).After-feed-state) in
-    let below : c.loop-k.k < count_of image = rw c.count_of-count.ensures at c.loop-k-test.true in (
-      omega arith,
-      rw c.gather.ensures (gathered_size image c.loop-k.k c.loop-k.begins _ c.loop-k.invariant.1),
-      state_next image c.loop-k.k below c.loop-k.invariant.2 c.word_at.ensures next,
-      rw next (omega (arith, c.loop-k.invariant.3)),
-      rw c.gather.ensures (gathered image c.loop-k.k c.loop-k.begins _ c.loop-k.invariant.1 (state_sum image c.loop-k.k c.loop-k.invariant.2) c.loop-k.invariant.4),
-    )
-
-pub returns : goal.returns
-returns c =
-    let image = c.args.image.now in
-    let all : c.loop-k.k ≡ count_of image = rw (← c.count_of-count.ensures) (omega arith) in
-    let whole = take_all (count_of image) (lengths_of image) (omega (arith, lengths_count image)) in record {
-      state_value = c.loop-k.invariant.2 ∙ ap (λ k. after_all (take k (lengths_of image))) all ∙ ap after_all whole;
-      begins_to16 = rw (← all) c.loop-k.invariant.4;
+    let k = c.loop-k.k in
+    let before = c.loop-k.invariant in
+    let below : k < count_of image = omega (arith, c.count_of-count.ensures) in
+    let next = c.feed-state.ensures ∙ cut_whole _ (omega (arith, before.small)) in record {
+      size = elim c.if-k-lt32.branch [ then-k-lt32 w ↦ rw w.begins-is (length-set _ k _ ∙ before.size) | else-k-lt32 w ↦ rw w.begins-is before.size ];
+      state = state_next image k below before.state c.word_at.ensures next;
+      small = rw next (omega (arith, before.small));
+      gathered = elim c.if-k-lt32.branch [
+        then-k-lt32 w ↦ rw w.begins-is (gathered image k _ before.size (state_sum image k before.state) before.gathered)
+      | else-k-lt32 w ↦ rw w.begins-is (past_32 image k _ w.if-k-lt32.false before.gathered)
+      ];
     }
+
+pub returns-clause-after_lengths : goal.returns-clause-after_lengths
+returns-clause-after_lengths c =
+    let image = c.args.image.now in
+    let all : c.loop-k.k ≡ count_of image = omega (arith, c.count_of-count.ensures) in
+    let whole = take_all (count_of image) (lengths_of image) (omega (arith, lengths_count image)) in
+    c.loop-k.invariant.state ∙ ap (λ k. after_all (take k (lengths_of image))) all ∙ ap after_all whole
