@@ -3,3 +3,4 @@ pub mod Routine
 pub mod Outcome
 pub mod Exploring
 pub mod Measuring
+pub mod Refusing

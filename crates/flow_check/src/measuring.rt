@@ -1,140 +1,98 @@
 // Depths by the cells of a routine: 11, 12 and 14, the need, the count and the marks.
-ghost use Rattle.std.specs.Prelude.{◌≡◌, ℕ, ◌<◌, ◌≤◌, length};
-ghost use Rattle.numbers.specs.Checks.{both, under, differ};
+ghost use Rattle.std.specs.Prelude.{◌≡◌, ℕ, ◌+◌, ◌<◌, ◌≤◌, length, IfErr, MatchResult};
 ghost use Rattle.control_flow.specs.Graph.{cells as held_in};
-ghost use Rattle.control_flow.specs.Routine.{routine, depth_number};
+ghost use Rattle.control_flow.specs.Routine.{routine};
+ghost use Rattle.control_flow.specs.Refusing.{number_of, at_of};
 ghost use Rattle.control_flow.specs.Exploring.{middle};
 ghost use Rattle.control_flow.specs.Measuring.{DepthStep, Measurable};
-ghost use Rattle.flow_check.specs.Internal.{DepthsTested};
+ghost use Rattle.flow_check.specs.Results.{need_of, count_of};
+ghost use Rattle.flow_check.specs.Internal.{row_number, DepthsTested};
 
-use crate::Checked;
-use crate::columns::{CALL, FALL, JUMP, POPS, PUSHES, START, STORE};
+use crate::Measured;
 use crate::exploring::MIDDLE;
-use crate::uses::{larger, used};
+use crate::spans::Span;
+use crate::uses::used;
+use control_flow::{Refusal, Row};
 
-// 11 where control does not go on and the depth, held as `held`, is not 0.
-fn back_number(held: usize, falls: u16, jumps: u16) -> u8
-    ensures { result ≡ both (under falls 1 11) (both (under jumps 1 11) (differ held middle 11)) }
+// 11, 12 or 14 for the instruction at an offset, where its depth is held as `held`.
+fn check_depth(at: usize, held: usize, row: Row) -> Result<(), Refusal>
+    requires { held ≤ 4294967295 }
+    ensures number { number_of result ≡ row_number middle held row }
+    ensures offset { IfErr result (λ r. r.at ≡ at) }
 {
-    if falls != 0 {
-        return 0;
+    let pops = usize::from(row.pops);
+    let raised = held + usize::from(row.pushes);
+    if held < MIDDLE
+        || MIDDLE + 255 < held
+        || raised < MIDDLE + pops
+        || MIDDLE + 255 + pops < raised
+    {
+        return Err(Refusal { number: 11, at });
     }
-    if jumps != 0 {
-        return 0;
+    if row.fall == 0 && row.jump == 0 && held != MIDDLE {
+        return Err(Refusal { number: 11, at });
     }
-    if held == MIDDLE { 0 } else { 11 }
-}
-
-// 11, 12 or 14 for an instruction by its cells, where its depth is held as `held`.
-fn depth_number(
-    held: u32,
-    falls: u16,
-    jumps: u16,
-    pops: u16,
-    pushes: u16,
-    store: u16,
-    call: u16,
-) -> u8
-    ensures { result ≡ depth_number middle held falls jumps pops pushes store call }
-{
-    let held = held as usize;
-    let raised = held + pushes as usize;
-    let pops = pops as usize;
-    if held < MIDDLE {
-        return 11;
+    if held < MIDDLE + usize::from(row.store) {
+        return Err(Refusal { number: 12, at });
     }
-    if MIDDLE + 255 < held {
-        return 11;
+    if 32 < row.call {
+        return Err(Refusal { number: 14, at });
     }
-    if raised < MIDDLE + pops {
-        return 11;
-    }
-    if MIDDLE + 255 + pops < raised {
-        return 11;
-    }
-    let back = back_number(held, falls, jumps);
-    if back != 0 {
-        return back;
-    }
-    if held < MIDDLE + store as usize {
-        return 12;
-    }
-    if 32 < call { 14 } else { 0 }
+    Ok(())
 }
 
 // One offset: nothing where it is no start, else 11, 12 and 14, its mark, its use and the count.
-fn check_depth(
-    cells: &[[u16; 7]; 4096],
+fn measure_at(
+    at: usize,
+    cells: &[Row; 4096],
     needs: &[u16; 32],
     depths: &[u32; 4096],
     marks: &mut [u16],
-    c: Checked,
-) -> Checked
-    requires { (c.at < 4096) × (c.at < length marks.old) × (c.count ≤ 4096) }
-    ensures { (entry end : ℕ) → DepthStep (routine entry end cells.now) needs.now middle (held_in depths.now)
-        marks.old c.at c.need c.count result.refusal result.at marks.new result.need result.count }
+    m: Measured,
+) -> Result<Measured, Refusal>
+    requires { (at < 4096) × (at < length marks.old) × (m.count ≤ 4096) }
+    ensures { (entry end : ℕ) → MatchResult result
+        (λ n. DepthStep (routine entry end cells.now) needs.now middle (held_in depths.now) marks.old at m.need m.count
+            0 (at + 1) marks.new n.need n.count)
+        (λ r. DepthStep (routine entry end cells.now) needs.now middle (held_in depths.now) marks.old at m.need m.count
+            r.number r.at marks.new m.need m.count) }
 {
-    let o = c.at;
-    let row = cells[o];
-    if row[START] == 0 {
-        return Checked {
-            refusal: 0,
-            at: o + 1,
-            need: c.need,
-            count: c.count,
-        };
+    let row = cells[at];
+    if row.start == 0 {
+        return Ok(m);
     }
-    let held = depths[o];
-    let popped = row[POPS];
-    let pushed = row[PUSHES];
-    let call = row[CALL];
-    let number = depth_number(held, row[FALL], row[JUMP], popped, pushed, row[STORE], call);
-    if number != 0 {
-        return Checked {
-            refusal: number,
-            at: o,
-            need: c.need,
-            count: c.count,
-        };
-    }
-    let depth = held as usize - MIDDLE;
-    let need = larger(c.need, used(depth, popped, pushed, call, needs));
-    marks[o] = (depth + 1) as u16;
-    Checked {
-        refusal: 0,
-        at: o + 1,
+    let held = depths[at] as usize;
+    check_depth(at, held, row)?;
+    let depth = held - MIDDLE;
+    let need = m.need.max(used(depth, row, needs));
+    marks[at] = (depth + 1) as u16;
+    Ok(Measured {
         need,
-        count: c.count + 1,
-    }
+        count: m.count + 1,
+    })
 }
 
 // Every start, rising, to the end or to the first refusal.
 pub(crate) fn check_depths(
-    entry: usize,
-    end: usize,
-    cells: &[[u16; 7]; 4096],
+    span: Span,
+    cells: &[Row; 4096],
     needs: &[u16; 32],
     counted: usize,
     depths: &[u32; 4096],
     marks: &mut [u16],
-) -> Checked
-    requires { (entry ≤ end) × (end ≤ 4096) × (end ≤ length marks.old) × (counted ≤ entry) }
-    ensures { let x = routine entry end cells.now in
+) -> Result<Measured, Refusal>
+    requires { (span.end ≤ length marks.old) × (counted ≤ span.entry) }
+    ensures { let x = routine span.entry span.end cells.now in
         Measurable x middle (held_in depths.now) marks.old counted →
         DepthsTested x needs.now middle (held_in depths.now) marks.old counted
-        result.refusal result.at marks.new result.need result.count }
+        (number_of result) (at_of result) marks.new (need_of result) (count_of result) }
 {
-    let mut c = Checked {
-        refusal: 0,
-        at: entry,
+    let mut m = Measured {
         need: 0,
         count: counted,
     };
-    while c.at < end {
-        c = check_depth(cells, needs, depths, marks, c);
-        if c.refusal != 0 {
-            return c;
-        }
+    for at in span.entry..span.end {
+        m = measure_at(at, cells, needs, depths, marks, m)?;
     }
-    c
+    Ok(m)
 }

@@ -7,13 +7,12 @@ use Rattle.control_flow.proofs.Invariant.{Exploring, Nothing}
 use Rattle.flow_check.specs.Internal.{Noted}
 use Rattle.flow_check.proofs.exploring.explore.Given as goal
 
-abbrev pub invariant-loop-left : goal.invariant-loop-left
-invariant-loop-left l =
-    (l.e.height + l.left ≤ 4097)
-    × (Exploring middle 65535 (graph l.entry l.cells) l.initial.depths Nothing l.initial.depths l.initial.stack 1 true → ((o : ℕ) → Reached (graph l.entry l.cells) o → o < 4096) →
-    Exploring middle 65535 (graph l.entry l.cells) l.initial.depths Nothing l.depths l.stack l.e.height l.e.agree
-    × ((4096 - known l.depths) + l.e.height ≤ l.left)
-    × Noted l.depths l.stack l.e)
-
-abbrev pub decreases-loop-left : goal.decreases-loop-left
-decreases-loop-left l = l.left
+abbrev pub invariant-loop : goal.invariant-loop
+invariant-loop l =
+    let g = graph l.entry l.cells in
+    let first = l.initial.trail in
+    (l.e.height ≤ l.counter + 1)
+    × (Exploring middle 65535 g first.depths Nothing first.depths first.stack 1 true → ((o : ℕ) → Reached g o → o < 4096) →
+    Exploring middle 65535 g first.depths Nothing l.trail.depths l.trail.stack l.e.height l.e.agree
+    × ((4096 - known l.trail.depths) + l.e.height + l.counter ≤ 4096)
+    × Noted l.trail.depths l.trail.stack l.e)

@@ -21,10 +21,10 @@ returns-then-old-eq0 c = record {
       let here : c.args.e.height % 4096 ≡ c.args.e.height = omega (arith, l) in
       rw here (
         fresh ((c.args.to - 1) % 4096) (omega (arith, f.high, c.if-to-eq0.false)) c.if-old-eq0.true,
-        λ n told. (
-          put_on_top c.args.stack.now c.args.e.height ((c.args.to - 1) % 4096) f.slots (omega (arith, l)),
-          get_or-set_same c.args.depths.now ((c.args.to - 1) % 4096) c.args.depth 0 (omega (arith, f.cells)),
-        ),
+        λ n. record {
+          at = put_on_top c.args.trail.now.stack c.args.e.height ((c.args.to - 1) % 4096) f.slots (omega (arith, l));
+          depth = get_or-set_same c.args.trail.now.depths ((c.args.to - 1) % 4096) c.args.depth 0 (omega (arith, f.cells));
+        },
       );
 }
 

@@ -1,31 +1,21 @@
 -- `flow_check::jumps::check_jumps` meets its contract. The loop's invariant: the jumps of the starts passed land on starts.
 use Rattle.std.proofs.Common.{arith}
-use Rattle.control_flow.specs.Graph.{column}
+use Rattle.std.proofs.lemmas.Result.{err_from_is_err_and}
 use Rattle.control_flow.specs.Exploring.{fails, passes}
-use Rattle.control_flow.proofs.Rising.{none_below, one_more}
-use Rattle.flow_check.specs.Internal.{Lands}
 use Rattle.flow_check.proofs.jumps.check_jumps.Goals as goal
 
-pub returns-then-number-ne0 : goal.returns-then-number-ne0
-returns-then-number-ne0 c =
-    let found = c.number_at-number.ensures.bound (omega (arith, c.if-number-ne0.true)) in
-    fails
+pub returns-in_err-check_jump : goal.returns-in_err-check_jump
+returns-in_err-check_jump c =
+    let refusal = err_from_is_err_and c.from_residual.result c.from_residual.ensures.1 in
+    let found = c.in_err-check_jump.ensures.fails in
+    rw (refusal.1, refusal.2, found.0)
+    (fails
     (record {
-      start = record { low = c.loop-o.invariant.0; high = c.loop-o-test.true; is = found.0 };
-      is = found.1;
-      some = omega (arith, c.if-number-ne0.true);
-      lower = λ o low s. c.loop-o.invariant.2 o s.low low s.is;
-    })
-
-pub loop-o-preserved : goal.loop-o-preserved
-loop-o-preserved c =
-    let rows = c.args.cells.now in
-    let more = one_more c.args.entry (column 0 rows) (Lands rows) c.loop-o.o c.loop-o.invariant.2 (c.number_at-number.ensures.lands c.if-number-ne0.false) in
-    (omega arith, omega arith, more)
+      start = record { low = c.loop-at.auto.at; high = c.loop-at-test.true; is = found.1 };
+      is = found.2;
+      some = c.in_err-check_jump.field-0.0.some;
+      lower = λ o low s. c.loop-at.invariant o s.low low s.is;
+    }))
 
 pub returns : goal.returns
-returns c =
-    passes (λ o s. c.loop-o.invariant.2 o s.low (omega (arith, s.high, c.loop-o-test.false)) s.is)
-
-pub loop-o-init : goal.loop-o-init
-loop-o-init c = (omega arith, omega arith, none_below _ _ _)
+returns c = passes (λ o s. c.loop-at.invariant o s.low (omega (arith, s.high, c.loop-at-test.false)) s.is)

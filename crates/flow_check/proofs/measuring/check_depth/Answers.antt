@@ -1,42 +1,63 @@
--- `flow_check::measuring::check_depth` meets its contract. What the passed checks say of the start's cells keeps every sum and difference in range.
-use Rattle.std.proofs.Common.{ℕ, ◌+◌, ◌≤◌, get_or, sym, ◌∙◌, arith}
-use Rattle.control_flow.specs.Graph.{column}
+-- `flow_check::measuring::check_depth` meets its contract.
+use Rattle.std.proofs.Common.{arith}
 use Rattle.control_flow.specs.Exploring.{middle}
-use Rattle.control_flow.specs.Measuring.{skips, refuses, measures}
-use Rattle.control_flow.proofs.DepthNumbers.{Inside, depth_passes}
+use Rattle.control_flow.proofs.DepthNumbers.{Inside}
+use Rattle.flow_check.proofs.Depths.{depth_outside, depth_denied, depth_lost, depth_allowed}
 use Rattle.flow_check.proofs.measuring.check_depth.Goals as goal
-use Rattle.flow_check.proofs.measuring.check_depth.Goals.{Else-number-ne0}
+use Rattle.flow_check.proofs.measuring.check_depth.Goals.{
+  then-held-lt-MIDDLE-via-then-held-lt-MIDDLE,
+  then-held-lt-MIDDLE-via-else-held-lt-MIDDLE+then-held,
+  then-held-lt-MIDDLE-via-else-held-lt-MIDDLE+else-held+then-raised-pops,
+  then-held-lt-MIDDLE-via-else-held-lt-MIDDLE+else-held+else-raised-pops+then-pops-raised,
+  Joined-else-row-eq0,
+  else-row-eq0-via-then-row-eq0+then-row-eq0-2+else-held-ne-MIDDLE,
+  else-row-eq0-via-then-row-eq0+else-row-eq0-2,
+  else-row-eq0-via-else-row-eq0,
+}
 
-here : (c : Else-number-ne0) →
-    let o = c.args.c.at in
-    let cell : ℕ → ℕ = λ k. column k c.args.cells.now o in
-    let held = get_or c.args.depths.now o 0 in
-    Inside middle held (cell 1) (cell 2) (cell 3) (cell 4) (cell 5) (cell 6) × (middle + cell 5 ≤ held) × (cell 6 ≤ 32)
-here c = depth_passes _ _ _ _ _ _ _ _ (sym c.depth_number-number.ensures ∙ c.if-number-ne0.false)
+pub returns-then-held-lt-MIDDLE-clause-number : goal.returns-then-held-lt-MIDDLE-clause-number
+returns-then-held-lt-MIDDLE-clause-number c =
+    rw (← c.row.view_is)
+    (depth_outside _ _ _ _ _ _ _ _
+    (λ i.
+    elim c.then-held-lt-MIDDLE.branch [
+      then-held-lt-MIDDLE-via-then-held-lt-MIDDLE w ↦ omega (arith, i.before_low)
+    | then-held-lt-MIDDLE-via-else-held-lt-MIDDLE+then-held w ↦ omega (arith, i.before_high)
+    | then-held-lt-MIDDLE-via-else-held-lt-MIDDLE+else-held+then-raised-pops w ↦ omega (arith, i.after_low)
+    | then-held-lt-MIDDLE-via-else-held-lt-MIDDLE+else-held+else-raised-pops+then-pops-raised w ↦ omega (arith, i.after_high)
+    ]))
 
-pub returns-then-number-ne0 : goal.returns-then-number-ne0
-returns-then-number-ne0 c entry end =
-    refuses (omega (arith, c.if-row-eq0.false)) c.depth_number-number.ensures (omega (arith, c.if-number-ne0.true))
+pub returns-then-held-ne-MIDDLE-clause-number : goal.returns-then-held-ne-MIDDLE-clause-number
+returns-then-held-ne-MIDDLE-clause-number c =
+    rw (← c.row.view_is)
+    (depth_outside _ _ _ _ _ _ _ _ (λ i. c.if-held-ne-MIDDLE.true (i.ended c.if-row-eq0.true c.if-row-eq0-2.true)))
 
-pub used-requires : goal.used-requires
-used-requires c = let h = here c in (omega (arith, h.0.before_high), h.2, omega (arith, h.0.before_low, h.0.after_low))
+inside : (c : Joined-else-row-eq0) → let r = c.row.inside in
+    Inside middle c.args.held r.fall r.jump r.pops r.pushes r.store r.call
+inside c =
+    record {
+      before_low = c.if-held-lt-MIDDLE.false;
+      before_high = c.if-held.false;
+      after_low = omega arith;
+      after_high = omega arith;
+      ended = λ fall jump.
+          elim c.else-row-eq0.branch [
+            else-row-eq0-via-then-row-eq0+then-row-eq0-2+else-held-ne-MIDDLE w ↦ omega arith
+          | else-row-eq0-via-then-row-eq0+else-row-eq0-2 w ↦ absurd (omega arith)
+          | else-row-eq0-via-else-row-eq0 w ↦ absurd (omega arith)
+          ];
+    }
 
-pub returns : goal.returns
-returns c entry end =
-    rw (c.larger-need.ensures, c.used.ensures)
-    (measures (omega (arith, c.if-row-eq0.false)) (sym c.depth_number-number.ensures ∙ c.if-number-ne0.false))
+pub returns-then-held-from-clause-number : goal.returns-then-held-from-clause-number
+returns-then-held-from-clause-number c =
+    rw (← c.row.view_is) (depth_denied _ _ _ _ _ _ _ _ (inside (goal.at.returns-then-held-from-clause-number c).Joined-else-row-eq0) (omega arith))
 
-pub returns-then-row-eq0 : goal.returns-then-row-eq0
-returns-then-row-eq0 c entry end = skips c.if-row-eq0.true
+pub returns-then-row-gt32-clause-number : goal.returns-then-row-gt32-clause-number
+returns-then-row-gt32-clause-number c =
+    rw (← c.row.view_is)
+    (depth_lost _ _ _ _ _ _ _ _ (inside (goal.at.returns-then-row-gt32-clause-number c).Joined-else-row-eq0) (omega arith) c.if-row-gt32.true)
 
-pub overflow_cast-depth : goal.overflow_cast-depth
-overflow_cast-depth c = omega (arith, (here c).0.before_high)
-
-pub overflow_sub-depth : goal.overflow_sub-depth
-overflow_sub-depth c = omega (arith, (here c).0.before_low)
-
-pub overflow_add-marks : goal.overflow_add-marks
-overflow_add-marks c = omega (arith, (here (goal.at.overflow_add-marks c).Else-number-ne0).0.before_high)
-
-pub overflow_cast-marks : goal.overflow_cast-marks
-overflow_cast-marks c = omega (arith, (here (goal.at.overflow_cast-marks c).Else-number-ne0).0.before_high)
+pub returns-clause-number : goal.returns-clause-number
+returns-clause-number c =
+    rw (← c.row.view_is)
+    (depth_allowed _ _ _ _ _ _ _ _ (inside (goal.at.returns-clause-number c).Joined-else-row-eq0) (omega arith) c.if-row-gt32.false)

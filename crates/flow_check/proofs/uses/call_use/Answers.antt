@@ -1,5 +1,5 @@
 -- `flow_check::uses::call_use` meets its contract.
-use Rattle.std.proofs.Common.{arith, eq-eqb, ne_eqb}
+use Rattle.std.proofs.Common.{eq-eqb, ne_eqb}
 use Rattle.control_flow.specs.Measuring.{call_use}
 use Rattle.flow_check.proofs.uses.call_use.Goals as goal
 
@@ -9,7 +9,4 @@ returns-then-call-eq0 c = rw (eq-eqb _ _ c.if-call-eq0.true)
 
 pub returns : goal.returns
 unfolding call_use
-returns c = rw (c.wide.ensures.value, ne_eqb _ _ c.if-call-eq0.false)
-
-pub overflow_add-result-2 : goal.overflow_add-result-2
-overflow_add-result-2 c = omega (arith, c.wide.ensures.upper_bound)
+returns c = rw (c.from.ensures, ne_eqb _ _ c.if-call-eq0.false)

@@ -4,4 +4,13 @@ use Rattle.flow_check.proofs.uses.used.Goals as goal
 
 pub returns : goal.returns
 unfolding greatest_use
-returns c = rw (c.larger-2.ensures, c.call_use.ensures, c.larger.ensures)
+returns c =
+    rw (
+      c.max-2.ensures,
+      c.max.ensures,
+      c.call_use.ensures,
+      c.from.ensures,
+      c.from-2.ensures,
+      c.from-3.ensures,
+      ← c.row.view_is,
+    )
