@@ -1,6 +1,7 @@
--- Registers as text: A 11 X 2222 Y 3333 CC 44 SP 03FD PC 008000.
-use Rattle.std.specs.Prelude.{ℕ, ◌/◌, ◌%◌, List, ◌++◌}
+-- Registers as text: A 11 X 2222 Y 3333 CC 44 SP 03FD PC 008000; and memory cells: 0010 55.
+use Rattle.std.specs.Prelude.{ℕ, ◌/◌, ◌%◌, List, [], ◌∷◌, ◌++◌, get_or}
 use Rattle.numbers.specs.Ascii.{ascii}
+use Rattle.numbers.specs.Words.{word}
 use Rattle.notation.specs.Notation.{byte_digits, word_digits}
 use Rattle.execution.specs.declared.Registers.{Registers}
 
@@ -13,3 +14,14 @@ registers_text r =
     ascii " CC " ++ byte_digits r.cc ++
     ascii " SP " ++ word_digits r.sp ++
     ascii " PC " ++ byte_digits (r.pc / 65536 % 256) ++ word_digits (r.pc % 65536)
+
+-- an address and the byte there
+abbrev pub cell_text : ℕ → ℕ → List ℕ
+cell_text address byte = word_digits address ++ ascii " " ++ byte_digits byte
+
+-- the bytes of a memory at the addresses of cells, each after a comma
+unfoldable pub cells_text : List ℕ → List ℕ → List ℕ
+cells_text memory [] = []
+cells_text memory (h ∷ []) = []
+cells_text memory (h ∷ l ∷ []) = []
+cells_text memory (h ∷ l ∷ byte ∷ cells) = ascii ", " ++ cell_text (word h l) (get_or memory (word h l) 0) ++ cells_text memory cells
