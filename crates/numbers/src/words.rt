@@ -8,7 +8,8 @@ ghost use Rattle.numbers.specs.Words.{word as word_of, high as high_of, low as l
 pub fn word(high: u8, low: u8) -> u16
     ensures { result ≡ word_of high low }
 {
-    u16::from_be_bytes([high, low])
+    // By `u16::from_be_bytes` a single step takes 816 instructions for 802: the bytes are put together low first, and exchanged.
+    (high as u16) * 256 + (low as u16)
 }
 
 // A word's high byte.
@@ -38,6 +39,7 @@ pub fn byte_at(bytes: &[u8], at: usize) -> u8
 pub fn word_at(bytes: &[u8], at: usize) -> u16
     ensures { result ≡ word_at bytes.now at }
 {
+    // The test comes first: past the last index of all there is no `at + 1`.
     if at < bytes.len() {
         word(bytes[at], byte_at(bytes, at + 1))
     } else {
@@ -49,7 +51,7 @@ pub fn word_at(bytes: &[u8], at: usize) -> u16
 pub fn put_byte(bytes: &mut [u8], at: usize, byte: u8)
     ensures { bytes.new ≡ set bytes.old at byte }
 {
-    // A test and a write: what `get_mut` wrote to, a proof knows by its length alone.
+    // Not by `get_mut`: of a slice that was written through it, a proof knows the length alone.
     if at < bytes.len() {
         bytes[at] = byte;
     }
