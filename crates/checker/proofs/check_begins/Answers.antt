@@ -1,20 +1,23 @@
 -- `checker::check_begins` meets its contract: its outcome is a declared one, and there is one only.
-use mathlib.Core.Path.{sym, subst, ◌∙◌, ap}
+use mathlib.Core.Path.{◌≡◌, sym, subst, ◌∙◌, ap}
 use mathlib.Core.List.{List}
 use Prim.Native.Nat.{ℕ}
 use Rattle.image.specs.Image.{layout_of}
 use Rattle.image.specs.Lengths.{Begins}
 use Rattle.image.proofs.Layouts.{count_is}
+use Rattle.image.specs.Validated.{Refused}
 use Rattle.rules.specs.Outcome.{invalid}
 use Rattle.rules.proofs.EveryOutcome.{verdict_numbered}
 use Rattle.acceptance.proofs.Accepting.{outcome_checked}
 use Rattle.checker.proofs.check_begins.Goals as goal
 
+begins_in : {image image' begins : List ℕ} {count : ℕ} → image' ≡ image → Begins image' begins count → Begins image begins count
+begins_in same begins = rw (← same) begins
+
 pub check_valid-verdict-requires : goal.check_valid-verdict-requires
 check_valid-verdict-requires c =
     let told = c.in-Ok.ensures in
-    let measured = c.in-Ok.measured in
-    (sym told.answer, subst (λ (image : List ℕ). Begins image measured.begins measured.layout.count) told.same_image measured.routines_begin)
+    (sym told.answer, begins_in told.same_image c.in-Ok.measured.routines_begin)
 
 pub returns-in-Ok : goal.returns-in-Ok
 unfolding layout_of
@@ -23,7 +26,8 @@ returns-in-Ok c =
     let measured = c.in-Ok.measured in record {
       marks_value = outcome_checked _ _ _ c.check_valid-verdict.ensures;
       verdict_numbered = verdict_numbered c.check_valid-verdict.ensures;
-      by_index = λ need count e k below. rw (← count_is _ _ _ (sym told.answer)) at below in ?;
+      by_index = λ need count e.
+          subst (λ (n : ℕ). Begins c.args.image.now measured.begins n) (count_is _ _ _ (sym told.answer)) (begins_in told.same_image measured.routines_begin);
     }
 
 pub returns-in-Err : goal.returns-in-Err
