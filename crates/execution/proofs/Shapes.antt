@@ -25,15 +25,20 @@ use Rattle.stm8.specs.declared.Instruction.{Instruction}
 use Rattle.stm8.specs.declared.Instruction.TheVariants.{Jump}
 use Rattle.byte_operations.specs.Conditions.{holds}
 use Rattle.image.specs.declared.Limits.{Limits}
+use Rattle.std.specs.Prelude.{Result, Ok, Err, IsErrAnd}
+use Rattle.storage.specs.declared.Trap.{Trap}
+use Rattle.storage.specs.Traps.{trap_number}
+use Rattle.storage.proofs.TrapLaws.{trap_some, passed_on}
 use Rattle.storage.specs.Storing.{sp_trap, move_trap, store_trap, call_trap}
 use Rattle.execution.specs.Performing.{effect_trap, sp_after}
 use Rattle.storage.specs.Storing.{stored_at, memory_after}
 use Rattle.execution.specs.Performing.{pc_after, made as made_of, performed}
 use Rattle.execution.specs.Computing.{computed}
 use Rattle.execution.specs.Cycles.{instruction_cycles, cost_of}
-use Rattle.execution.specs.Internal.{performed_by, performed_as, made_with, trapped_with}
+use Rattle.execution.specs.Internal.{performed_by, performed_as, made_with, timed_as}
 use Rattle.execution.specs.declared.Registers.{Registers}
 use Rattle.execution.specs.declared.Computed.{Computed}
+use Rattle.execution.specs.declared.Performed.{Performed}
 use Rattle.execution.specs.declared.TimedStep.{TimedStep}
 
 -- which trap is due
@@ -75,21 +80,22 @@ module _ (limits : Limits) (sp : ℕ) where
         rw none (first_pass _ ∙ ap (first (store_trap limits sp place)) (first_pass 0) ∙ first_none (store_trap limits sp place))
 
     -- 24 comes before the others
-    pub move_first : (e : Effect) (trap : ℕ) → move_trap limits sp e ≡ trap → (trap ≡ 0 → ⊥) → effect_trap limits sp next e ≡ trap
+    pub move_first : (e : Effect) (trap : Trap) → trap_number trap ≡ move_trap limits sp e → trap_number trap ≡ effect_trap limits sp next e
     unfolding effect_trap first_in first
-    move_first e trap is some = rw (is, ne_eqb trap 0 some)
+    move_first e trap is = rw (← is, trap_some trap)
 
 -- what comes of it
 module _ (image : List ℕ) (limits : Limits) (regs : Registers) (memory : List ℕ) (next cycles : ℕ) (c : Computed) (e : Effect) where
-  pub trapped : (trap : ℕ) → effect_trap limits regs.sp next e ≡ trap → (trap ≡ 0 → ⊥) →
-      performed_by image limits regs memory next cycles c e ≡ (trapped_with regs trap, memory)
+  -- a trap, as `?` passes it on
+  pub trapped : (trap : Trap) (r : Result Performed Trap) → IsErrAnd r (λ e. e ≡ trap) → trap_number trap ≡ effect_trap limits regs.sp next e →
+      performed_by image limits regs memory next cycles c e ≡ (timed_as regs r, memory)
   unfolding performed_by
-  trapped trap is some = rw (is, ne_eqb trap 0 some)
+  trapped trap r passed is = rw (passed_on trap r passed, ← is, trap_some trap)
 
   pub made : effect_trap limits regs.sp next e ≡ 0 → (sp pc : ℕ) → sp_after regs.sp e ≡ sp →
       pc_after image memory regs.sp next c.taken e.flow ≡ pc →
       performed_by image limits regs memory next cycles c e ≡
-      (made_with c sp pc cycles, memory_after memory (stored_at regs.sp (sp_after regs.sp e) e.place) c.stored)
+      (timed_as regs (Ok (made_with c sp pc cycles)), memory_after memory (stored_at regs.sp (sp_after regs.sp e) e.place) c.stored)
   unfolding performed_by
   made none sp pc p q = rw (none, p, q)
 

@@ -51,3 +51,10 @@ pub struct TimedStep {
     pub stepped: Stepped,
     pub cycles: u64,
 }
+
+// What an instruction that no trap stops leaves: the registers after it, and its cycles.
+#[derive(Clone, Copy)]
+pub struct Performed {
+    pub registers: Registers,
+    pub cycles: u64,
+}

@@ -1,5 +1,5 @@
-// What an instruction moves, by the shape of its effect: SP, PC and memory, or its trap. Each answers a whole step; what touches memory by an
-// operand answers a trap's number instead, so that the registers never have to lie in memory.
+// What an instruction moves, by the shape of its effect: SP, PC and memory, or its trap. What touches memory by an operand gives no registers,
+// so that these never have to lie in memory.
 ghost use Rattle.std.specs.Prelude.{◌≡◌, false, cond, List, ℕ, ◌+◌, ◌-◌, ◌<◌};
 ghost use Rattle.stm8.specs.Effects.{relative as relative_to, bytes_wide, place_of, is_call, moves as moves_of, goes as goes_of};
 ghost use Rattle.stm8.specs.declared.Place.{Place};
@@ -9,14 +9,14 @@ ghost use Rattle.image.specs.declared.Limits.{Limits};
 ghost use Rattle.storage.specs.Storing.{sp_trap, move_trap, call_trap};
 ghost use Rattle.execution.specs.Performing.{pc_after};
 ghost use Rattle.storage.specs.Storing.{Stored};
-ghost use Rattle.execution.specs.Internal.{performed_by, made_with, trapped_with};
+ghost use Rattle.storage.specs.Traps.{number_of};
+ghost use Rattle.execution.specs.Internal.{performed_by, made_with, timed_as};
 
-use crate::{Computed, Registers, StepAnswer, Stepped, TimedStep};
+use crate::{Computed, Performed, Registers, StepAnswer, Stepped, TimedStep};
 use effects::{bytes_wide, relative};
 use image::Limits;
-use numbers::checks::first;
 use stm8::{Operand, Width};
-use storage::{move_trap, put, put_operand};
+use storage::{Trap, move_trap, put, put_operand};
 
 // Where a relative jump or call from the next address goes.
 pub(crate) fn target(next: u32, offset: u8) -> u32
@@ -43,7 +43,7 @@ fn charged(holds: bool, untaken: u64, taken: u64) -> u64
 
 impl Computed {
     // What was computed, with SP and PC, and the cycles that it takes.
-    fn made(self, sp: u16, pc: u32, cycles: u64) -> TimedStep
+    fn made(self, sp: u16, pc: u32, cycles: u64) -> Performed
         ensures { result ≡ made_with self sp pc cycles }
     {
         let registers = Registers {
@@ -54,10 +54,7 @@ impl Computed {
             sp,
             pc,
         };
-        TimedStep {
-            stepped: registers.answer(StepAnswer::Made),
-            cycles,
-        }
+        Performed { registers, cycles }
     }
 }
 
@@ -72,13 +69,19 @@ impl Registers {
         }
     }
 
-    // A trap, which changes nothing and costs nothing.
-    fn trapped(self, trap: u8) -> TimedStep
-        ensures { result ≡ trapped_with self trap }
+    // A whole step from these registers: a trap changes nothing and costs nothing.
+    pub(crate) fn timed(self, performed: Result<Performed, Trap>) -> TimedStep
+        ensures { result ≡ timed_as self performed }
     {
-        TimedStep {
-            stepped: self.answer(StepAnswer::Trap(trap)),
-            cycles: 0,
+        match performed {
+            Ok(made) => TimedStep {
+                stepped: made.registers.answer(StepAnswer::Made),
+                cycles: made.cycles,
+            },
+            Err(trap) => TimedStep {
+                stepped: self.answer(StepAnswer::Trap(u8::from(trap))),
+                cycles: 0,
+            },
         }
     }
 
@@ -87,22 +90,16 @@ impl Registers {
         requires { self.sp + pops < 0x10000 }
         ensures { result ≡ self.sp + pops - pushes }
     {
-        let popped = self.sp as u32 + pops as u32;
-        let pushed = pushes as u32;
-        if popped < pushed {
-            0
-        } else {
-            (popped - pushed) as u16
-        }
+        (self.sp as u32 + pops as u32).saturating_sub(pushes as u32) as u16
     }
 
     // Nothing moves but PC, and SP is in its range: no trap.
-    pub(crate) fn goes(self, c: Computed, pc: u32, cycles: u64) -> TimedStep
+    pub(crate) fn goes(self, c: Computed, pc: u32, cycles: u64) -> Result<Performed, Trap>
         ensures { (image memory : List ℕ) (limits : Limits) (next : ℕ) (flow : Flow) →
             sp_trap limits self.sp ≡ 0 → is_call flow ≡ false → pc ≡ pc_after image memory self.sp next c.taken flow →
-            performed_by image limits self memory next cycles c (goes_of flow) ≡ (result, memory) }
+            performed_by image limits self memory next cycles c (goes_of flow) ≡ (timed_as self result, memory) }
     {
-        c.made(self.sp, pc, cycles)
+        Ok(c.made(self.sp, pc, cycles))
     }
 
     // A jump, which goes where its condition holds.
@@ -113,11 +110,11 @@ impl Registers {
         offset: u8,
         untaken: u64,
         taken: u64,
-    ) -> TimedStep
+    ) -> Result<Performed, Trap>
         requires { next < 0x1000000 }
         ensures { (image memory : List ℕ) (limits : Limits) (flow : Flow) → sp_trap limits self.sp ≡ 0 → is_call flow ≡ false →
             cond c.taken (relative_to next offset) next ≡ pc_after image memory self.sp next c.taken flow →
-            performed_by image limits self memory next (cond c.taken taken untaken) c (goes_of flow) ≡ (result, memory) }
+            performed_by image limits self memory next (cond c.taken taken untaken) c (goes_of flow) ≡ (timed_as self result, memory) }
     {
         self.goes(
             c,
@@ -135,16 +132,13 @@ impl Registers {
         pushes: u8,
         pc: u32,
         cycles: u64,
-    ) -> TimedStep
+    ) -> Result<Performed, Trap>
         ensures { (image memory : List ℕ) (next : ℕ) (flow : Flow) → is_call flow ≡ false →
             pc ≡ pc_after image memory self.sp next c.taken flow →
-            performed_by image limits self memory next cycles c (record { pops = pops; pushes = pushes; place = Nowhere; flow = flow }) ≡ (result, memory) }
+            performed_by image limits self memory next cycles c (record { pops = pops; pushes = pushes; place = Nowhere; flow = flow }) ≡ (timed_as self result, memory) }
     {
-        let trap = move_trap(limits, self.sp, pops, pushes);
-        if trap != 0 {
-            return self.trapped(trap);
-        }
-        c.made(self.sp_after(pops, pushes), pc, cycles)
+        move_trap(limits, self.sp, pops, pushes)?;
+        Ok(c.made(self.sp_after(pops, pushes), pc, cycles))
     }
 
     // A value is pushed, just above the new SP: 24, then the trap of a call, where it is one.
@@ -155,35 +149,38 @@ impl Registers {
         c: Computed,
         w: Width,
         pc: u32,
-        call: u8,
+        call: Result<(), Trap>,
         cycles: u64,
-    ) -> TimedStep
-        ensures { (image : List ℕ) (next : ℕ) (flow : Flow) → call ≡ call_trap next flow →
+    ) -> Result<Performed, Trap>
+        ensures { (image : List ℕ) (next : ℕ) (flow : Flow) → number_of call ≡ call_trap next flow →
             pc ≡ pc_after image memory.old self.sp next c.taken flow →
             performed_by image limits self memory.old next cycles c (record { pops = 0; pushes = bytes_wide w; place = Pushed w; flow = flow }) ≡
-            (result, memory.new) }
+            (timed_as self result, memory.new) }
     {
         let wide = bytes_wide(w) as u8;
-        let trap = first(move_trap(limits, self.sp, 0, wide), call);
-        if trap != 0 {
-            return self.trapped(trap);
-        }
+        move_trap(limits, self.sp, 0, wide)?;
+        call?;
         let sp = self.sp_after(0, wide);
         put(memory, sp as u32 + 1, w, c.stored);
-        c.made(sp, pc, cycles)
+        Ok(c.made(sp, pc, cycles))
     }
 
     // A store was tried, with SP already moved: its trap, or the instruction is made.
-    pub(crate) fn stores(self, c: Computed, trap: u8, sp: u16, next: u32, cycles: u64) -> TimedStep
+    pub(crate) fn stores(
+        self,
+        c: Computed,
+        stored: Result<(), Trap>,
+        sp: u16,
+        next: u32,
+        cycles: u64,
+    ) -> Result<Performed, Trap>
         ensures { (image memory memory' : List ℕ) (limits : Limits) (pops : ℕ) (place : Place) →
             move_trap limits self.sp (moves_of pops 0 place) ≡ 0 → sp ≡ self.sp + pops →
-            Stored limits self.sp place c.stored memory trap memory' →
-            performed_by image limits self memory next cycles c (moves_of pops 0 place) ≡ (result, memory') }
+            Stored limits self.sp place c.stored memory (number_of stored) memory' →
+            performed_by image limits self memory next cycles c (moves_of pops 0 place) ≡ (timed_as self result, memory') }
     {
-        if trap != 0 {
-            return self.trapped(trap);
-        }
-        c.made(sp, next, cycles)
+        stored?;
+        Ok(c.made(sp, next, cycles))
     }
 
     // A byte is popped and stored to an operand: 24, then 25.
@@ -195,14 +192,11 @@ impl Registers {
         x: Operand,
         next: u32,
         cycles: u64,
-    ) -> TimedStep
+    ) -> Result<Performed, Trap>
         ensures { (image : List ℕ) → performed_by image limits self memory.old next cycles c (moves_of 1 0 (place_of x Width.Byte)) ≡
-            (result, memory.new) }
+            (timed_as self result, memory.new) }
     {
-        let trap = move_trap(limits, self.sp, 1, 0);
-        if trap != 0 {
-            return self.trapped(trap);
-        }
+        move_trap(limits, self.sp, 1, 0)?;
         let stored = put_operand(limits, memory, self.sp, x, Width::Byte, c.stored);
         self.stores(c, stored, self.sp_after(1, 0), next, cycles)
     }

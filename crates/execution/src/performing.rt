@@ -7,14 +7,14 @@ ghost use Rattle.byte_operations.specs.BitOperations.{bit_holds};
 ghost use Rattle.storage.specs.Reading.{read_byte};
 ghost use Rattle.execution.specs.Performing.{performed};
 ghost use Rattle.execution.specs.Cycles.{instruction_cycles, cost_of};
-ghost use Rattle.execution.specs.Internal.{performed_as};
+ghost use Rattle.execution.specs.Internal.{performed_as, timed_as};
 
 use crate::moving::target;
-use crate::{Registers, TimedStep};
+use crate::{Performed, Registers, TimedStep};
 use effects::writes_back;
 use image::Limits;
 use stm8::{AluOp, BitOp, BitTest, Instruction, ModifyOp, Operand, Register, Width};
-use storage::{call_trap, put_direct, put_operand, read_byte, read_word};
+use storage::{Trap, call_trap, put_direct, put_operand, read_byte, read_word};
 
 impl Registers {
     fn perform_alu(
@@ -26,9 +26,9 @@ impl Registers {
         x: Operand,
         next: u32,
         cycles: u64,
-    ) -> TimedStep
+    ) -> Result<Performed, Trap>
         ensures { sp_trap limits self.sp ≡ 0 →
-            performed_as image.now limits self memory.now next cycles (Alu o x) ≡ (result, memory.now) }
+            performed_as image.now limits self memory.now next cycles (Alu o x) ≡ (timed_as self result, memory.now) }
     {
         self.goes(
             self.alu(o, self.operand_byte(image, memory, x)),
@@ -44,13 +44,13 @@ impl Registers {
         x: Operand,
         next: u32,
         cycles: u64,
-    ) -> TimedStep
+    ) -> Result<Performed, Trap>
         ensures { (image : List ℕ) → sp_trap limits self.sp ≡ 0 →
-            performed_as image limits self memory.old next cycles (Store x) ≡ (result, memory.new) }
+            performed_as image limits self memory.old next cycles (Store x) ≡ (timed_as self result, memory.new) }
     {
         let c = self.store_a();
-        let trap = put_operand(limits, memory, self.sp, x, Width::Byte, c.stored);
-        self.stores(c, trap, self.sp, next, cycles)
+        let stored = put_operand(limits, memory, self.sp, x, Width::Byte, c.stored);
+        self.stores(c, stored, self.sp, next, cycles)
     }
 
     fn perform_modify(
@@ -62,14 +62,14 @@ impl Registers {
         x: Operand,
         next: u32,
         cycles: u64,
-    ) -> TimedStep
+    ) -> Result<Performed, Trap>
         ensures { sp_trap limits self.sp ≡ 0 →
-            performed_as image.now limits self memory.old next cycles (Modify o x) ≡ (result, memory.new) }
+            performed_as image.now limits self memory.old next cycles (Modify o x) ≡ (timed_as self result, memory.new) }
     {
         let c = self.modify(o, x, self.operand_byte(image, memory, x));
         if writes_back(o) {
-            let trap = put_operand(limits, memory, self.sp, x, Width::Byte, c.stored);
-            return self.stores(c, trap, self.sp, next, cycles);
+            let stored = put_operand(limits, memory, self.sp, x, Width::Byte, c.stored);
+            return self.stores(c, stored, self.sp, next, cycles);
         }
         self.goes(c, next, cycles)
     }
@@ -83,9 +83,9 @@ impl Registers {
         x: Operand,
         next: u32,
         cycles: u64,
-    ) -> TimedStep
+    ) -> Result<Performed, Trap>
         ensures { sp_trap limits self.sp ≡ 0 →
-            performed_as image.now limits self memory.now next cycles (LoadWord r x) ≡ (result, memory.now) }
+            performed_as image.now limits self memory.now next cycles (LoadWord r x) ≡ (timed_as self result, memory.now) }
     {
         self.goes(
             self.load_word(r, self.operand_word(image, memory, x)),
@@ -102,13 +102,13 @@ impl Registers {
         x: Operand,
         next: u32,
         cycles: u64,
-    ) -> TimedStep
+    ) -> Result<Performed, Trap>
         ensures { (image : List ℕ) → sp_trap limits self.sp ≡ 0 →
-            performed_as image limits self memory.old next cycles (StoreWord r x) ≡ (result, memory.new) }
+            performed_as image limits self memory.old next cycles (StoreWord r x) ≡ (timed_as self result, memory.new) }
     {
         let c = self.store_word(r);
-        let trap = put_operand(limits, memory, self.sp, x, Width::Word, c.stored);
-        self.stores(c, trap, self.sp, next, cycles)
+        let stored = put_operand(limits, memory, self.sp, x, Width::Word, c.stored);
+        self.stores(c, stored, self.sp, next, cycles)
     }
 
     fn perform_popw(
@@ -119,8 +119,8 @@ impl Registers {
         r: Register,
         next: u32,
         cycles: u64,
-    ) -> TimedStep
-        ensures { performed_as image.now limits self memory.now next cycles (Popw r) ≡ (result, memory.now) }
+    ) -> Result<Performed, Trap>
+        ensures { performed_as image.now limits self memory.now next cycles (Popw r) ≡ (timed_as self result, memory.now) }
     {
         let w = read_word(image, memory, self.sp as u32 + 1);
         self.moves(limits, self.with_word(r, w), 2, 0, next, cycles)
@@ -136,13 +136,13 @@ impl Registers {
         a: u16,
         next: u32,
         cycles: u64,
-    ) -> TimedStep
+    ) -> Result<Performed, Trap>
         ensures { sp_trap limits self.sp ≡ 0 →
-            performed_as image.now limits self memory.old next cycles (Bit o n a) ≡ (result, memory.new) }
+            performed_as image.now limits self memory.old next cycles (Bit o n a) ≡ (timed_as self result, memory.new) }
     {
         let c = self.bit(o, n, read_byte(image, memory, a as u32));
-        let trap = put_direct(limits, memory, a, Width::Byte, c.stored);
-        self.stores(c, trap, self.sp, next, cycles)
+        let stored = put_direct(limits, memory, a, Width::Byte, c.stored);
+        self.stores(c, stored, self.sp, next, cycles)
     }
 
     fn perform_bit_jump(
@@ -157,10 +157,10 @@ impl Registers {
         next: u32,
         untaken: u64,
         taken: u64,
-    ) -> TimedStep
+    ) -> Result<Performed, Trap>
         requires { next < 0x1000000 }
         ensures { sp_trap limits self.sp ≡ 0 →
-            performed_as image.now limits self memory.now next (cond (bit_holds o n (read_byte image.now memory.now a)) taken untaken) (BitJump o n a offset) ≡ (result, memory.now) }
+            performed_as image.now limits self memory.now next (cond (bit_holds o n (read_byte image.now memory.now a)) taken untaken) (BitJump o n a offset) ≡ (timed_as self result, memory.now) }
     {
         self.jumps(
             self.bit_jump(o, n, read_byte(image, memory, a as u32)),
@@ -180,13 +180,13 @@ impl Registers {
         from: Operand,
         next: u32,
         cycles: u64,
-    ) -> TimedStep
+    ) -> Result<Performed, Trap>
         ensures { sp_trap limits self.sp ≡ 0 →
-            performed_as image.now limits self memory.old next cycles (Mov to from) ≡ (result, memory.new) }
+            performed_as image.now limits self memory.old next cycles (Mov to from) ≡ (timed_as self result, memory.new) }
     {
         let c = self.storing_byte(self.operand_byte(image, memory, from));
-        let trap = put_operand(limits, memory, self.sp, to, Width::Byte, c.stored);
-        self.stores(c, trap, self.sp, next, cycles)
+        let stored = put_operand(limits, memory, self.sp, to, Width::Byte, c.stored);
+        self.stores(c, stored, self.sp, next, cycles)
     }
 
     fn perform_push(
@@ -197,11 +197,11 @@ impl Registers {
         x: Operand,
         next: u32,
         cycles: u64,
-    ) -> TimedStep
-        ensures { performed_as image.now limits self memory.old next cycles (Push x) ≡ (result, memory.new) }
+    ) -> Result<Performed, Trap>
+        ensures { performed_as image.now limits self memory.old next cycles (Push x) ≡ (timed_as self result, memory.new) }
     {
         let c = self.storing_byte(self.operand_byte(image, memory, x));
-        self.pushes(limits, memory, c, Width::Byte, next, 0, cycles)
+        self.pushes(limits, memory, c, Width::Byte, next, Ok(()), cycles)
     }
 
     fn perform_pop(
@@ -212,8 +212,8 @@ impl Registers {
         x: Operand,
         next: u32,
         cycles: u64,
-    ) -> TimedStep
-        ensures { performed_as image.now limits self memory.old next cycles (Pop x) ≡ (result, memory.new) }
+    ) -> Result<Performed, Trap>
+        ensures { performed_as image.now limits self memory.old next cycles (Pop x) ≡ (timed_as self result, memory.new) }
     {
         let c = self.pop(x, read_byte(image, memory, self.sp as u32 + 1));
         self.pops(limits, memory, c, x, next, cycles)
@@ -226,8 +226,8 @@ impl Registers {
         a: u16,
         next: u32,
         cycles: u64,
-    ) -> TimedStep
-        ensures { (image : List ℕ) → performed_as image limits self memory.old next cycles (Call a) ≡ (result, memory.new) }
+    ) -> Result<Performed, Trap>
+        ensures { (image : List ℕ) → performed_as image limits self memory.old next cycles (Call a) ≡ (timed_as self result, memory.new) }
     {
         let c = self.storing((next % 0x10000) as u16, self.cc);
         self.pushes(
@@ -248,9 +248,9 @@ impl Registers {
         offset: u8,
         next: u32,
         cycles: u64,
-    ) -> TimedStep
+    ) -> Result<Performed, Trap>
         requires { next < 0x1000000 }
-        ensures { (image : List ℕ) → performed_as image limits self memory.old next cycles (Callr offset) ≡ (result, memory.new) }
+        ensures { (image : List ℕ) → performed_as image limits self memory.old next cycles (Callr offset) ≡ (timed_as self result, memory.new) }
     {
         let c = self.storing((next % 0x10000) as u16, self.cc);
         self.pushes(
@@ -271,8 +271,8 @@ impl Registers {
         memory: &[u8],
         next: u32,
         cycles: u64,
-    ) -> TimedStep
-        ensures { performed_as image.now limits self memory.now next cycles (Ret) ≡ (result, memory.now) }
+    ) -> Result<Performed, Trap>
+        ensures { performed_as image.now limits self memory.now next cycles (Ret) ≡ (timed_as self result, memory.now) }
     {
         let address = read_word(image, memory, self.sp as u32 + 1);
         self.moves(limits, self.unchanged(), 2, 0, address as u32, cycles)
@@ -287,11 +287,11 @@ impl Registers {
         memory: &mut [u8],
         i: Instruction,
         next: u32,
-    ) -> TimedStep
+    ) -> Result<Performed, Trap>
         requires { next < 0x1000000 }
         ensures { sp_trap limits self.sp ≡ 0 →
             performed_as image.now limits self memory.old next
-            (instruction_cycles image.now memory.old self next i) i ≡ (result, memory.new) }
+            (instruction_cycles image.now memory.old self next i) i ≡ (timed_as self result, memory.new) }
     {
         match i {
             Instruction::Alu(o, x) => self.perform_alu(image, limits, memory, o, x, next, 1),
@@ -312,7 +312,7 @@ impl Registers {
                 self.pushw(r),
                 Width::Word,
                 next,
-                0,
+                Ok(()),
                 2,
             ),
             Instruction::Popw(r) => self.perform_popw(image, limits, memory, r, next, 2),
@@ -352,6 +352,6 @@ impl Registers {
         ensures cycles_value { next < 0x1000000 → sp_trap limits self.sp ≡ 0 →
             result.cycles ≡ cost_of result.stepped.answer (instruction_cycles image.now memory.old self next i) }
     {
-        self.perform(image, limits, memory, i, next % 0x1000000)
+        self.timed(self.perform(image, limits, memory, i, next % 0x1000000))
     }
 }

@@ -36,33 +36,37 @@ pub(crate) fn run_valid(
     ensures cycles_value { result.cycles ≡ run_cycles budget image.now limits given memory.old }
 {
     let mut registers = given;
-    let mut left = budget;
     let mut cycles = 0;
-    let answer = loop {
-        if left == 0 {
-            if registers.pc == 0 {
-                break RunAnswer::Finished;
-            }
-            break RunAnswer::Spent;
-        }
+    for steps in 0..budget {
         let timed = step_valid(registers, image, layout, limits, memory);
-        let stepped = timed.stepped;
-        let outcome = stepped.answer;
-        registers = stepped.registers;
-        match outcome {
+        registers = timed.stepped.registers;
+        let answer = match timed.stepped.answer {
             StepAnswer::Made => {
-                left -= 1;
                 cycles += timed.cycles;
+                continue;
             }
-            StepAnswer::Finished => break RunAnswer::Finished,
-            StepAnswer::Trap(number) => break RunAnswer::Trap(number),
-            StepAnswer::Refused(number) => break RunAnswer::Refused(number),
-        }
+            StepAnswer::Finished => RunAnswer::Finished,
+            StepAnswer::Trap(number) => RunAnswer::Trap(number),
+            StepAnswer::Refused(number) => RunAnswer::Refused(number),
+        };
+        return TimedRun {
+            ran: Ran {
+                answer,
+                registers,
+                steps,
+            },
+            cycles,
+        };
+    }
+    let answer = if registers.pc == 0 {
+        RunAnswer::Finished
+    } else {
+        RunAnswer::Spent
     };
     let ran = Ran {
         answer,
         registers,
-        steps: budget - left,
+        steps: budget,
     };
     TimedRun { ran, cycles }
 }

@@ -1,10 +1,12 @@
 // A step of an image and limits that are valid.
-ghost use Rattle.std.specs.Prelude.{◌≡◌, ◌-◌};
+ghost use Rattle.std.specs.Prelude.{◌≡◌, ◌-◌, ◌≤◌, ℕ, List};
+ghost use Rattle.numbers.specs.Checks.{first};
 ghost use Rattle.image.specs.Image.{base_of, layout_of};
 ghost use Rattle.image.specs.Validation.{answer};
 ghost use Rattle.image.specs.ValidLayout.{ValidLayout};
 ghost use Rattle.code.specs.Code.{instruction_in};
 ghost use Rattle.storage.specs.Storing.{sp_trap};
+ghost use Rattle.storage.specs.Traps.{number_of};
 ghost use Rattle.execution.specs.Cycles.{cost_of};
 ghost use Rattle.machine.specs.Cycles.{cycles_at};
 ghost use Rattle.machine.specs.Refusing.{refusal_number, answer_of};
@@ -13,9 +15,10 @@ ghost use Rattle.machine.specs.Step.{pc_trap, decoding_trap, decoded_step, step_
 use crate::traps::{pc_trap, sp_trap};
 use crate::{Registers, StepAnswer, Stepped, TimedStep};
 use code::decode_at;
-use image::{ImageError, Layout, Limits};
+use image::{ImageError, Layout, Limits, Validated};
 use numbers::checks::first;
 use stm8::Decoded;
+use storage::Trap;
 
 // Why no step is tried: memory has not 32,768 bytes, or the image or the limits are not valid.
 #[derive(Clone, Copy, Debug, PartialEq, Eq)]
@@ -102,6 +105,16 @@ fn step_inside(
     registers.step(image, limits, memory, i, registers.pc + n as u32)
 }
 
+// The traps of SP and PC, in this order.
+fn early_trap(registers: Registers, layout: Layout, limits: Limits) -> Result<(), Trap>
+    requires { layout.size ≤ 4096 }
+    ensures { (image : List ℕ) → layout ≡ layout_of image →
+        number_of result ≡ first (sp_trap limits registers.sp) (pc_trap image registers.pc) }
+{
+    sp_trap(limits, registers.sp)?;
+    pc_trap(layout, registers.pc)
+}
+
 // One step.
 pub(crate) fn step_valid(
     registers: Registers,
@@ -114,13 +127,11 @@ pub(crate) fn step_valid(
     ensures memory_value { step_valid image.now limits registers memory.old ≡ (result.stepped, memory.new) }
     ensures cycles_value { result.cycles ≡ cost_of result.stepped.answer (cycles_at image.now registers memory.old) }
 {
-    let pc = registers.pc;
-    if pc == 0 {
+    if registers.pc == 0 {
         return without_cycles(registers.answer(StepAnswer::Finished));
     }
-    let trap = first(sp_trap(limits, registers.sp), pc_trap(layout, pc));
-    if trap != 0 {
-        return without_cycles(registers.answer(StepAnswer::Trap(trap)));
+    if let Err(trap) = early_trap(registers, layout, limits) {
+        return without_cycles(registers.answer(StepAnswer::Trap(u8::from(trap))));
     }
     step_inside(registers, image, layout, limits, memory)
 }

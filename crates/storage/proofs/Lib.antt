@@ -1,2 +1,3 @@
 pub mod ReadLaws
+pub mod TrapLaws
 mod NothingStored

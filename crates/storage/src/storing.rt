@@ -1,9 +1,11 @@
-// Stores, each with its trap: 25, or 0 where the value was stored.
-ghost use Rattle.std.specs.Prelude.{◌≡◌, cond, ℕ, eqb};
+// Stores, each with its trap, 25, where the value was not stored.
+ghost use Rattle.std.specs.Prelude.{◌≡◌, ℕ};
 ghost use Rattle.stm8.specs.Effects.{place_of};
 ghost use Rattle.stm8.specs.declared.Place.TheVariants.{Direct, OnStack};
 ghost use Rattle.storage.specs.Storing.{bytes_from, memory_after, Stored};
+ghost use Rattle.storage.specs.Traps.{number_of};
 
+use crate::Trap;
 use crate::traps::{direct_trap, stack_trap};
 use image::Limits;
 use numbers::words::{high, low, put_byte};
@@ -24,34 +26,38 @@ pub fn put(memory: &mut [u8], at: u32, w: Width, value: u16)
     }
 }
 
-// The same, unless a trap is due: that trap.
-fn put_unless(trap: u8, memory: &mut [u8], at: u32, w: Width, value: u16) -> u8
-    ensures value { result ≡ trap }
-    ensures memory_after { memory.new ≡ cond (eqb trap 0) (memory_after memory.old (bytes_from at w) value) memory.old }
+// A store at an address.
+pub fn put_direct(
+    limits: Limits,
+    memory: &mut [u8],
+    a: u16,
+    w: Width,
+    value: u16,
+) -> Result<(), Trap>
+    ensures { (sp : ℕ) → Stored limits sp (Direct a w) value memory.old (number_of result) memory.new }
 {
-    if trap == 0 {
-        put(memory, at, w, value);
-    }
-    trap
+    direct_trap(limits, a, w)?;
+    put(memory, a as u32, w, value);
+    Ok(())
 }
 
-// A store at an address, or 25.
-pub fn put_direct(limits: Limits, memory: &mut [u8], a: u16, w: Width, value: u16) -> u8
-    ensures { (sp : ℕ) → Stored limits sp (Direct a w) value memory.old result memory.new }
+// A store at an offset from SP.
+fn put_on_stack(
+    limits: Limits,
+    memory: &mut [u8],
+    sp: u16,
+    f: u8,
+    w: Width,
+    value: u16,
+) -> Result<(), Trap>
+    ensures { Stored limits sp (OnStack f w) value memory.old (number_of result) memory.new }
 {
-    let trap = direct_trap(limits, a, w);
-    put_unless(trap, memory, a as u32, w, value)
+    stack_trap(limits, sp, f, w)?;
+    put(memory, sp as u32 + f as u32, w, value);
+    Ok(())
 }
 
-// A store at an offset from SP, or 25.
-fn put_on_stack(limits: Limits, memory: &mut [u8], sp: u16, f: u8, w: Width, value: u16) -> u8
-    ensures { Stored limits sp (OnStack f w) value memory.old result memory.new }
-{
-    let trap = stack_trap(limits, sp, f, w);
-    put_unless(trap, memory, sp as u32 + f as u32, w, value)
-}
-
-// A store to an operand, or 25.
+// A store to an operand.
 pub fn put_operand(
     limits: Limits,
     memory: &mut [u8],
@@ -59,16 +65,14 @@ pub fn put_operand(
     x: Operand,
     w: Width,
     value: u16,
-) -> u8
-    ensures { Stored limits sp (place_of x w) value memory.old result memory.new }
+) -> Result<(), Trap>
+    ensures { Stored limits sp (place_of x w) value memory.old (number_of result) memory.new }
 {
     match x {
-        Operand::Accumulator => 0,
-        Operand::Immediate(_) => 0,
-        Operand::ImmediateWord(_) => 0,
         Operand::Short(a) => put_direct(limits, memory, a as u16, w, value),
         Operand::Long(a) => put_direct(limits, memory, a, w, value),
-        Operand::Indexed(_, _) => 0,
         Operand::Sp(f) => put_on_stack(limits, memory, sp, f, w, value),
+        // No place in memory.
+        _ => Ok(()),
     }
 }

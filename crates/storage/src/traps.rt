@@ -1,54 +1,56 @@
-// The traps of an instruction, 24, 25 and 22, 0 where there is none.
+// When the traps of an instruction, 24, 25 and 22, are due.
 ghost use Rattle.std.specs.Prelude.{◌≡◌, ℕ, ltb};
-ghost use Rattle.numbers.specs.Checks.{unless as unless_of};
+ghost use Rattle.numbers.specs.Checks.{unless};
 ghost use Rattle.stm8.specs.declared.Place.{Place};
 ghost use Rattle.stm8.specs.declared.Place.TheVariants.{Direct, OnStack};
 ghost use Rattle.stm8.specs.declared.Flow.{Flow};
 ghost use Rattle.storage.specs.Storing.{move_trap, store_trap};
+ghost use Rattle.storage.specs.Traps.{number_of};
 
+use crate::Trap;
 use effects::bytes_wide;
 use image::{Limits, granted};
-use numbers::checks::{first, under, unless};
 use stm8::Width;
 
-// 24, SP would leave its range.
-pub fn move_trap(limits: Limits, sp: u16, pops: u8, pushes: u8) -> u8
+pub fn move_trap(limits: Limits, sp: u16, pops: u8, pushes: u8) -> Result<(), Trap>
     ensures { (place : Place) (flow : Flow) →
-        result ≡ move_trap limits sp (record { pops = pops; pushes = pushes; place = place; flow = flow }) }
+        number_of result ≡ move_trap limits sp (record { pops = pops; pushes = pushes; place = place; flow = flow }) }
 {
     let stack = limits.stack;
     let popped = sp as usize + pops as usize;
-    first(
-        under(stack.high as usize, popped, 24),
-        under(popped + 1, stack.low as usize + pushes as usize, 24),
-    )
+    if popped > stack.high as usize || popped + 1 < stack.low as usize + pushes as usize {
+        return Err(Trap::Stack);
+    }
+    Ok(())
 }
 
-// 25, a direct store that does not lie wholly in one of the grants.
-pub(crate) fn direct_trap(limits: Limits, address: u16, w: Width) -> u8
-    ensures { (sp : ℕ) → result ≡ store_trap limits sp (Direct address w) }
+pub(crate) fn direct_trap(limits: Limits, address: u16, w: Width) -> Result<(), Trap>
+    ensures { (sp : ℕ) → number_of result ≡ store_trap limits sp (Direct address w) }
 {
-    unless(granted(limits, address, bytes_wide(w) as u8), 25)
+    if granted(limits, address, bytes_wide(w) as u8) {
+        Ok(())
+    } else {
+        Err(Trap::Store)
+    }
 }
 
-// 25, an SP store outside SP + 1 to stack high.
-pub(crate) fn stack_trap(limits: Limits, sp: u16, offset: u8, w: Width) -> u8
-    ensures { result ≡ store_trap limits sp (OnStack offset w) }
+pub(crate) fn stack_trap(limits: Limits, sp: u16, offset: u8, w: Width) -> Result<(), Trap>
+    ensures { number_of result ≡ store_trap limits sp (OnStack offset w) }
 {
-    let stack = limits.stack;
-    first(
-        under(offset as usize, 1, 25),
-        under(
-            stack.high as usize + 1,
-            sp as usize + offset as usize + bytes_wide(w),
-            25,
-        ),
-    )
+    let end = sp as usize + offset as usize + bytes_wide(w);
+    if offset == 0 || end > limits.stack.high as usize + 1 {
+        return Err(Trap::Store);
+    }
+    Ok(())
 }
 
-// 22, a call whose next address is 10000.
-pub fn call_trap(next: u32) -> u8
-    ensures { result ≡ unless_of (ltb next 0x10000) 22 }
+// A call whose next address is 10000 cannot push it.
+pub fn call_trap(next: u32) -> Result<(), Trap>
+    ensures { number_of result ≡ unless (ltb next 0x10000) 22 }
 {
-    unless(next < 0x10000, 22)
+    if next < 0x10000 {
+        Ok(())
+    } else {
+        Err(Trap::Pc)
+    }
 }

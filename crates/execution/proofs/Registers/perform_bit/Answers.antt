@@ -10,4 +10,4 @@ pub returns : goal.returns
 unfolding performed_as performed_by computed
 returns c inside = rw (c.bit-c.ensures, c.read_byte.ensures) at
     (c.stores.ensures c.args.image.now c.args.memory.now _ c.args.limits 0 _ (in_range c.args.limits c.args.self.sp inside _ Next) (omega arith)
-    (c.put_direct-trap.ensures c.args.self.sp))
+    (c.put_direct-stored.ensures c.args.self.sp))

@@ -16,7 +16,7 @@ returns-then-writes_back c inside = rw (← c.writes_back.ensures, c.if-writes_b
       c.operand_byte.ensures,
     ) at
     (c.stores.ensures c.args.image.now c.args.memory.now _ c.args.limits 0 _ (in_range c.args.limits c.args.self.sp inside _ Next) (omega arith)
-    c.put_operand-trap.ensures))
+    c.put_operand-stored.ensures))
 
 pub returns : goal.returns
 unfolding performed_as performed_by computed pc_after

@@ -10,4 +10,4 @@ pub returns : goal.returns
 unfolding performed_as performed_by computed
 returns c image inside = rw c.store_a-c.ensures at
     (c.stores.ensures image c.args.memory.now _ c.args.limits 0 _ (in_range c.args.limits c.args.self.sp inside _ Next) (omega arith)
-    c.put_operand-trap.ensures)
+    c.put_operand-stored.ensures)

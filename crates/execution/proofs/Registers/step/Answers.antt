@@ -4,11 +4,11 @@ use Rattle.execution.proofs.Shapes.{apart}
 use Rattle.execution.proofs.Registers.step.Goals as goal
 
 pub returns : goal.returns
-returns c = record {
+returns c = rw c.timed.ensures (record {
   i_value = (λ small inside.
       (apart c.args.image.now c.args.limits c.args.self c.args.memory.now c.args.next _ c.args.i _ _
       (rw (mod-eq_of_lt small) at (c.perform.ensures inside))).is);
   cycles_value = (λ small inside.
       (apart c.args.image.now c.args.limits c.args.self c.args.memory.now c.args.next _ c.args.i _ _
       (rw (mod-eq_of_lt small) at (c.perform.ensures inside))).counted);
-}
+})

@@ -7,13 +7,11 @@ use Rattle.machine.specs.Run.{more_steps, ran}
 use Rattle.machine.specs.Cycles.{run_cycles}
 use Rattle.machine.proofs.running.run_valid.Given as goal
 
-abbrev pub invariant-loop-left : goal.invariant-loop-left
-invariant-loop-left l =
-    (l.left ≤ l.budget) ×
-    (length l.memory ≡ length l.initial.memory) ×
-    (more_steps (l.budget - l.left) (ran l.left l.image l.limits l.registers l.memory) ≡ ran l.budget l.image l.limits l.initial.registers l.initial.memory) ×
-    (l.cycles + run_cycles l.left l.image l.limits l.registers l.memory ≡ run_cycles l.budget l.image l.limits l.initial.registers l.initial.memory) ×
-    (l.cycles ≤ 4 * (l.budget - l.left))
-
-abbrev pub decreases-loop-left : goal.decreases-loop-left
-decreases-loop-left l = l.left
+abbrev pub invariant-loop-steps : goal.invariant-loop-steps
+invariant-loop-steps l =
+    record {
+      size : length l.memory ≡ length l.initial.memory;
+      run : more_steps l.steps (ran (l.budget - l.steps) l.image l.limits l.registers l.memory) ≡ ran l.budget l.image l.limits l.initial.registers l.initial.memory;
+      counted : l.cycles + run_cycles (l.budget - l.steps) l.image l.limits l.registers l.memory ≡ run_cycles l.budget l.image l.limits l.initial.registers l.initial.memory;
+      few : l.cycles ≤ 4 * l.steps;
+    }
