@@ -1,30 +1,38 @@
 -- The search for a callee, step by step.
-use Prim.Native.Nat.{ℕ, suc, ◌+◌, ◌-◌, ◌<◌, ◌≤◌}
-use mathlib.Core.Path.{◌≡◌}
-use mathlib.Core.List.{List}
-use native.Mathlib.Omega.{arith}
-use borrow.Author.Tests.{eq-eqb, ne_eqb, lt-ltb, le-ltb}
+use Rattle.std.proofs.Common.{◌≡◌, refl, Option, Bool, true, false, add-zero, zero-add, get_or-take, ℕ, suc, ◌+◌, ◌-◌, ◌<◌, ◌≤◌, cond, nat_eq, ltb, List, [], ◌∷◌, length, get_or, take, arith, eq-eqb, ne_eqb, lt-ltb, le-ltb, Some, None}
+use Rattle.std.proofs.Math.Seq.{length-take-le}
+use Rattle.std.specs.Option.{unwrap_or}
+use Rattle.std.specs.List.{position_from, position_or_len}
+use Rattle.std.proofs.lemmas.Iterator.Adapters.{position_from-zero}
+use Rattle.image.specs.Lengths.{Begins}
 use Rattle.image.specs.Image.{base_of, start_of}
 use Rattle.rules.specs.Paths.{beginning, callee}
 use Rattle.acceptance.specs.Cells.{callee_cell}
 
--- the next routine, and none left
-module _ (image : List ℕ) (offset r j start : ℕ) (h : j < r) (e : start ≡ start_of image j) where
-  pub beginning_stop : start ≡ offset → beginning image offset (r - j) j ≡ j
-  unfolding beginning
-  beginning_stop there =
-      let more : r - j ≡ suc (r - (j + 1)) = omega arith in
-      rw (more, ← e, eq-eqb start offset there)
+first_or : (b : Bool) (o : Option ℕ) (j none n : ℕ) → unwrap_or o none ≡ n → unwrap_or (cond b (Some j) o) none ≡ cond b j n
+first_or true o j none n e = refl
+first_or false o j none n e = e
 
-  pub beginning_more : (start ≡ offset → ⊥) → beginning image offset (r - j) j ≡ beginning image offset (r - (j + 1)) (j + 1)
-  unfolding beginning
-  beginning_more elsewhere =
-      let more : r - j ≡ suc (r - (j + 1)) = omega arith in
-      rw (more, ← e, ne_eqb start offset elsewhere)
-
-pub beginning_done : (image : List ℕ) (offset r j : ℕ) → r ≤ j → beginning image offset (r - j) j ≡ j
+-- where a list that tells where routines begin, from routine j on, has an offset first
+beginning_found : (image : List ℕ) (offset : ℕ) (begins : List ℕ) (j : ℕ) → ((k : ℕ) → k < length begins → get_or begins k 0 ≡ start_of image (j + k)) →
+    unwrap_or (position_from (λ begin. nat_eq begin offset) j begins) (j + length begins) ≡ beginning image offset (length begins) j
 unfolding beginning
-beginning_done image offset r j h = let none : r - j ≡ 0 = omega arith in rw none
+beginning_found image offset [] j told = omega arith
+beginning_found image offset (begin ∷ begins) j told =
+    let here : begin ≡ start_of image j = rw add-zero at (told 0 (omega arith)) in
+    let more : j + 1 + length begins ≡ j + suc (length begins) = omega arith in
+    let rest = beginning_found image offset begins (j + 1)
+    (λ k low. let same : j + suc k ≡ j + 1 + k = omega arith in rw same at (told (suc k) (omega arith))) in
+    rw (← here) (first_or (nat_eq begin offset) _ j _ _ (rw more at rest))
+
+pub callee_found : (image begins : List ℕ) (offset r : ℕ) → Begins image begins r → r ≤ length begins →
+    unwrap_or (cond (ltb (position_or_len (λ begin. nat_eq begin offset) (take r begins)) (length (take r begins)))
+    (Some (position_or_len (λ begin. nat_eq begin offset) (take r begins))) None) r ≡ beginning image offset r 0
+callee_found image begins offset r told room =
+    let size : length (take r begins) ≡ r = length-take-le r begins room in
+    rw position_from-zero
+    (rw (size, zero-add) at (beginning_found image offset (take r begins) 0
+    (λ k low. let inside : k < r = omega arith in rw (zero-add, get_or-take) (told k inside))))
 
 module _ (image : List ℕ) (base r address : ℕ) (e : base ≡ base_of image) where
   pub callee_below : address < base → callee image r address ≡ r

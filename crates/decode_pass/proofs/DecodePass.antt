@@ -27,14 +27,6 @@ use Rattle.decode_pass.specs.Pass.{RoutineOf, Given, NoStarts, cells_of, Routine
 use Rattle.decode_pass.specs.Internal.{OffEnd, row_of, StartDecoded, faulty, whole, DecodedTo}
 use Rattle.decode_pass.specs.declared.Routine.{Routine}
 
--- where control does not fall it falls off nothing
-pub falls_not : (end next : ℕ) (flow : Flow) (b : Bool) → b ≡ falls flow → b ≡ false → OffEnd end next flow false
-falls_not end next flow b e none =
-    record {
-      past = λ t. let z : ◌≡◌ {A = ℕ} 0 1 = cc in absurd (omega arith);
-      inside = λ t f. let z : ◌≡◌ {A = ℕ} 0 1 = cc in absurd (omega arith);
-    }
-
 pub fault_some : {image : List ℕ} {r o n : ℕ} → CodeFault image r o n → 1 ≤ n
 fault_some (outside s f) = omega arith
 fault_some (cut s f) = omega arith
@@ -183,8 +175,8 @@ module _ {image : List ℕ} {r : Routine} {rows : List (List ℕ)} {at : ℕ} (t
   refused_here (faulty f) not = refused (code_lowest f (λ o s low. (to.stored o s low).1))
   refused_here (whole found inside row_is) not = absurd (not refl)
 
-pub all_decoded : {image : List ℕ} {r : Routine} {rows : List (List ℕ)} {at : ℕ} → RoutineOf image r → DecodedTo image r rows at → at ≡ r.end →
-    RoutineDecoded image r rows 0 at
+pub all_decoded : {image : List ℕ} {r : Routine} {rows : List (List ℕ)} {at named : ℕ} → RoutineOf image r → DecodedTo image r rows at → at ≡ r.end →
+    RoutineDecoded image r rows 0 named
 all_decoded {image} {r} {at = at} routine to ended =
     let high : (o : ℕ) → Start image r.index o → o < at =
     λ o s. omega (arith, start_below routine s) in

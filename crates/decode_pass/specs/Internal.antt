@@ -19,11 +19,6 @@ pub record OffEnd (end next : ℕ) (flow : Flow) (off : Bool) : Type 0 where
   pub past : off ≡ true → (falls flow ≡ true) × (end ≤ next)
   pub inside : off ≡ false → falls flow ≡ true → next < end
 
--- the cells of the ways on from an instruction of routine r that ends at `next`: by falling, by a jump and by a call
-abbrev pub ways_on : List ℕ → ℕ → ℕ → Flow → List ℕ
-ways_on image r next flow =
-    fall_cell flow next ∷ jump_cell (base_of image) (start_of image r) (end_of image r) next flow ∷ call_cell image r next flow ∷ []
-
 -- the row of a start of routine r whose instruction has this effect and ends at `next`
 abbrev pub row_of : List ℕ → Limits → ℕ → ℕ → Effect → List ℕ
 row_of image limits r next e =
@@ -36,6 +31,13 @@ pub record Small (r : Routine) (at : ℕ) : Type 0 where
   pub high : at < r.end
   pub size : r.end ≤ 4096
   pub index : r.index ≤ 32
+
+-- the offset after an instruction of a routine, where its cells have room for the routine's offsets and its place in the table
+pub record Room (r : Routine) (next : ℕ) : Type 0 where
+  pub next_most : next ≤ 4096
+  pub start_most : r.start ≤ 4096
+  pub end_most : r.end ≤ 4096
+  pub index_most : r.index ≤ 32
 
 -- One start: 8, 9 or 15, or where the next one is, and its row.
 pub data StartDecoded (image : List ℕ) (r : Routine) (at : ℕ) : ℕ → ℕ → List ℕ → Type 0 where

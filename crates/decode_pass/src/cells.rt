@@ -1,15 +1,18 @@
-// The cells of a start: what the check has to know of its instruction once it is decoded, as a row of numbers.
-ghost use Rattle.std.specs.Prelude.{◌≡◌, List, ℕ, ◌+◌, ◌≤◌};
+// The cells of a start: what the check has to know of its instruction once it is decoded, as a row of numbers. The numbers 255, 256 and 65535 for no
+// routine, no depth and no offset are those of the definitions of acceptance, which the check by cells compares as numbers.
+ghost use Rattle.std.specs.Prelude.{◌≡◌, List, ℕ, ◌+◌, ◌<◌, ◌≤◌, IfSome, unwrap_or};
 ghost use Rattle.stm8.specs.Effects.{relative as relative_to};
 ghost use Rattle.image.specs.Image.{base_of};
 ghost use Rattle.image.specs.Lengths.{Begins};
 ghost use Rattle.rules.specs.Paths.{callee as callee_of};
-ghost use Rattle.acceptance.specs.Cells.{target_cell, store_cell, callee_cell};
+ghost use Rattle.acceptance.specs.Cells.{fall_cell, target_cell, jump_cell, store_cell, callee_cell, call_cell};
+ghost use Rattle.image.specs.Image.{start_of, end_of};
 ghost use Rattle.decode_pass.specs.Pass.{RoutineOf};
-ghost use Rattle.decode_pass.specs.Internal.{ways_on, row_of};
+ghost use Rattle.decode_pass.specs.Internal.{Room, row_of};
 
 use crate::Routine;
 use code::{popped, pushed};
+use control_flow::Row;
 use effects::{bytes_wide, relative};
 use image::{Limits, granted};
 use stm8::{Effect, Flow, Place};
@@ -27,14 +30,11 @@ fn target_cell(base: u16, start: usize, end: usize, address: usize) -> u16
     requires { (start ≤ 4096) × (end ≤ 4096) }
     ensures { result ≡ target_cell base start end address }
 {
-    let base = base as usize;
-    if address < base + start {
-        return 65535;
-    }
-    if address < base + end {
-        (address - base + 1) as u16
-    } else {
+    let base = usize::from(base);
+    if address < base + start || base + end <= address {
         65535
+    } else {
+        (address - base + 1) as u16
     }
 }
 
@@ -55,41 +55,27 @@ fn store_cell(limits: Limits, place: Place) -> u16
             if f == 0 {
                 256
             } else {
-                f as u16 + (bytes_wide(w) - 1) as u16
+                u16::from(f) + (bytes_wide(w) - 1) as u16
             }
         }
         Place::Pushed(_) => 0,
     }
 }
 
-// A 16-bit cell as a number.
-fn wide(x: u16) -> usize
-    ensures { result ≡ x }
+// The callee of a call from routine r, where the call goes to an earlier routine's first byte. Where r is above 32 the answer is left free.
+pub fn callee(begins: &[u16; 32], base: u16, r: usize, address: usize) -> Option<usize>
+    ensures found { (image : List ℕ) → r ≤ 32 → base ≡ base_of image → Begins image begins.now r →
+        unwrap_or result r ≡ callee_of image r address }
+    ensures earlier { IfSome result (λ k. k < r) }
 {
-    x as usize
-}
-
-// The callee of a call from routine r; r where the call goes to no earlier routine's first byte. Where r is above 32 the answer is left free.
-pub fn callee(begins: &[u16; 32], base: u16, r: usize, address: usize) -> usize
-    ensures by_index { (image : List ℕ) → r ≤ 32 → base ≡ base_of image → Begins image begins.now r → result ≡ callee_of image r address }
-    ensures upper_bound { result ≤ r }
-{
-    if 32 < r {
-        return r;
-    }
-    let base = base as usize;
-    if address < base {
-        return r;
+    let base = usize::from(base);
+    if 32 < r || address < base {
+        return None;
     }
     let offset = address - base;
-    let mut j = 0;
-    while j < r {
-        if wide(begins[j]) == offset {
-            return j;
-        }
-        j += 1;
-    }
-    j
+    begins[..r]
+        .iter()
+        .position(|begin| usize::from(*begin) == offset)
 }
 
 // 1 + the callee's place in the table, 255 where it is no earlier routine.
@@ -97,48 +83,93 @@ fn callee_cell(begins: &[u16; 32], base: u16, r: usize, address: usize) -> u16
     requires { r ≤ 32 }
     ensures { (image : List ℕ) → base ≡ base_of image → Begins image begins.now r → result ≡ callee_cell image r address }
 {
-    let k = callee(begins, base, r, address);
-    if k < r { (k + 1) as u16 } else { 255 }
+    match callee(begins, base, r, address) {
+        Some(k) => (k + 1) as u16,
+        None => 255,
+    }
 }
 
-// The ways on from an instruction of a routine that ends at `next`, as cells: by falling, by a jump and by a call, 0 for each that it has not.
-fn ways_on(r: Routine, begins: &[u16; 32], next: usize, flow: Flow) -> [u16; 3]
-    requires { (next ≤ 4096) × (r.start ≤ 4096) × (r.end ≤ 4096) × (r.index ≤ 32) }
-    ensures { (image : List ℕ) → RoutineOf image r → Begins image begins.now r.index →
-        result ≡ ways_on image r.index next flow }
+// The ways on from an instruction, as cells: by falling, by a jump and by a call, 0 for each that it has not.
+#[derive(Clone, Copy)]
+struct Ways {
+    fall: u16,
+    jump: u16,
+    call: u16,
+}
+
+// The ways on from an instruction of a routine that ends at `next`.
+#[tactic(auto, unfolding(stm8::specs::Effects::jump_target, stm8::specs::Effects::call_target))]
+fn ways_on(r: Routine, begins: &[u16; 32], next: usize, flow: Flow) -> Ways
+    requires { Room r next }
+    ensures fall { result.fall ≡ fall_cell flow next }
+    ensures jump { (image : List ℕ) → RoutineOf image r →
+        result.jump ≡ jump_cell (base_of image) (start_of image r.index) (end_of image r.index) next flow }
+    ensures call { (image : List ℕ) → RoutineOf image r → Begins image begins.now r.index → result.call ≡ call_cell image r.index next flow }
 {
     let fall = (next + 1) as u16;
     match flow {
-        Flow::Next => [fall, 0, 0],
+        Flow::Next => Ways {
+            fall,
+            jump: 0,
+            call: 0,
+        },
         Flow::Branch(n) => {
             let jump = target_cell(r.base, r.start, r.end, target(r.base, next, n));
-            [fall, jump, 0]
+            Ways {
+                fall,
+                jump,
+                call: 0,
+            }
         }
         Flow::Jump(n) => {
             let jump = target_cell(r.base, r.start, r.end, target(r.base, next, n));
-            [0, jump, 0]
+            Ways {
+                fall: 0,
+                jump,
+                call: 0,
+            }
         }
-        Flow::Call(a) => [fall, 0, callee_cell(begins, r.base, r.index, a as usize)],
+        Flow::Call(a) => {
+            let call = callee_cell(begins, r.base, r.index, usize::from(a));
+            Ways {
+                fall,
+                jump: 0,
+                call,
+            }
+        }
         Flow::CallRelative(n) => {
             let call = callee_cell(begins, r.base, r.index, target(r.base, next, n));
-            [fall, 0, call]
+            Ways {
+                fall,
+                jump: 0,
+                call,
+            }
         }
-        Flow::Return => [0, 0, 0],
+        Flow::Return => Ways {
+            fall: 0,
+            jump: 0,
+            call: 0,
+        },
     }
 }
 
 // The row of a start whose instruction has this effect and ends at `next`.
-pub(crate) fn row_of(r: Routine, begins: &[u16; 32], next: usize, e: Effect) -> [u16; 7]
-    requires { (next ≤ 4096) × (r.start ≤ 4096) × (r.end ≤ 4096) × (r.index ≤ 32) }
+pub(crate) fn row_of(r: Routine, begins: &[u16; 32], next: usize, e: Effect) -> Row
+    requires { Room r next }
     ensures { (image : List ℕ) → RoutineOf image r → Begins image begins.now r.index →
         result ≡ row_of image r.limits r.index next e }
 {
-    let place = e.place;
-    let flow = e.flow;
-    let limits = r.limits;
-    let ways = ways_on(r, begins, next, flow);
+    let ways = ways_on(r, begins, next, e.flow);
     let pops = popped(e) as u16;
     let pushes = pushed(e) as u16;
-    let store = store_cell(limits, place);
-    [1, ways[0], ways[1], pops, pushes, store, ways[2]]
+    let store = store_cell(r.limits, e.place);
+    Row {
+        start: 1,
+        fall: ways.fall,
+        jump: ways.jump,
+        pops,
+        pushes,
+        store,
+        call: ways.call,
+    }
 }

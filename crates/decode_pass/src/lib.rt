@@ -6,10 +6,12 @@ mod cells;
 mod decoding;
 
 ghost use Rattle.std.specs.Prelude.{List, ℕ};
+ghost use Rattle.control_flow.specs.Refusing.{number_of, at_of};
 ghost use Rattle.decode_pass.specs.Pass.{Given, NoStarts, RoutineDecoded};
 
 use crate::decoding::decode_starts;
 pub use cells::callee;
+use control_flow::{Refusal, Row};
 use image::Limits;
 
 // A routine: its place in the table, the offsets of its first byte and past its last, the image's version and base address, and the limits.
@@ -23,34 +25,18 @@ pub struct Routine {
     pub limits: Limits,
 }
 
-// A refusal's number, 0 for none, and the offset that it names.
-#[derive(Clone, Copy)]
-pub struct Refusal {
-    pub number: u8,
-    pub at: usize,
-}
-
 // The decode pass, to the routine's end or to the first refusal. Where `Given` or `NoStarts` does not hold, the answer and the cells are left free.
 pub fn decode_routine(
     code: &[u8],
     begins: &[u16; 32],
     r: Routine,
-    cells: &mut [[u16; 7]; 4096],
-) -> Refusal
+    cells: &mut [Row; 4096],
+) -> Result<(), Refusal>
     ensures { (image : List ℕ) → Given image code.now begins.now r → NoStarts r.start cells.old →
-        RoutineDecoded image r cells.new result.number result.at }
+        RoutineDecoded image r cells.new (number_of result) (at_of result) }
 {
-    if 4096 < r.end {
-        return Refusal {
-            number: 0,
-            at: r.start,
-        };
-    }
-    if 32 < r.index {
-        return Refusal {
-            number: 0,
-            at: r.start,
-        };
+    if 4096 < r.end || 32 < r.index {
+        return Ok(());
     }
     decode_starts(code, begins, r, cells)
 }

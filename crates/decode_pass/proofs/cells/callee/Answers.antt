@@ -1,44 +1,22 @@
--- `decode_pass::cells::callee` meets its contract. The loop's invariant: what is left to search has the same answer as the whole.
-use mathlib.Core.Path.{sym, ◌∙◌}
-use native.Mathlib.Nat.{sub-zero}
-use Rattle.decode_pass.proofs.Callees.{callee_below, callee_above, beginning_stop, beginning_more, beginning_done}
-use native.Mathlib.Omega.{arith}
+-- `decode_pass::cells::callee` meets its contract.
+use Rattle.std.proofs.Common.{rules, arith, tests, nat_eq, ◌-◌, take, sym, ◌∙◌}
+use Rattle.std.proofs.lemmas.Iterator.{YieldsList-from_slice}
+use Rattle.std.proofs.lemmas.Iterator.Search.{position_from_yields_List}
+use Rattle.decode_pass.proofs.Callees.{callee_below, callee_above, callee_found}
 use Rattle.decode_pass.proofs.cells.callee.Goals as goal
+use Rattle.decode_pass.proofs.cells.callee.Goals.{then-r-gt32-via-then-r-gt32, then-r-gt32-via-else-r-gt32+then-address-base}
 
-pub returns-then-wide-offset : goal.returns-then-wide-offset
-returns-then-wide-offset c = record {
-  by_index = λ image few e begins.
-      let here = c.wide.ensures ∙ begins _ c.loop-j-test.true in
-      sym (beginning_stop image _ _ _ _ c.loop-j-test.true here c.if-wide-offset.true) ∙ c.loop-j.invariant.1 image begins ∙
-      sym (callee_above image _ _ _ e c.if-address-base.false);
-  upper_bound = omega arith;
-}
+pub returns-then-r-gt32-clause-found : goal.returns-then-r-gt32-clause-found
+returns-then-r-gt32-clause-found c image few e begins =
+    elim c.then-r-gt32.branch [
+      then-r-gt32-via-then-r-gt32 w ↦ absurd (omega arith)
+    | then-r-gt32-via-else-r-gt32+then-address-base w ↦ sym (callee_below image _ _ _ e (omega arith))
+    ]
 
-pub loop-j-preserved : goal.loop-j-preserved
-loop-j-preserved c = (
-  omega arith,
-  λ image begins.
-      let here = c.wide.ensures ∙ begins _ c.loop-j-test.true in
-      sym (beginning_more image _ _ _ _ c.loop-j-test.true here c.if-wide-offset.false) ∙ c.loop-j.invariant.1 image begins,
-)
-
-pub returns : goal.returns
-returns c = record {
-  by_index = λ image few e begins. sym (beginning_done image _ _ _ c.loop-j-test.false) ∙ c.loop-j.invariant.1 image begins ∙ sym (callee_above image _ _ _ e c.if-address-base.false);
-  upper_bound = c.loop-j.invariant.0;
-}
-
-pub returns-then-r-gt32 : goal.returns-then-r-gt32
-returns-then-r-gt32 c = record {
-  by_index = λ image few. absurd (omega (arith, c.if-r-gt32.true));
-  upper_bound = omega arith;
-}
-
-pub returns-then-address-base : goal.returns-then-address-base
-returns-then-address-base c = record {
-  by_index = λ image few e begins. sym (callee_below image _ _ _ e c.if-address-base.true);
-  upper_bound = omega arith;
-}
-
-pub loop-j-init : goal.loop-j-init
-loop-j-init c = (omega arith, λ image begins. rw sub-zero)
+pub returns-clause-found : goal.returns-clause-found
+returns-clause-found c image few e begins =
+    let begins_taken = take c.args.r c.args.begins.now in
+    let ran = position_from_yields_List (λ begin. nat_eq begin (c.args.address - c.from-base.result)) _ _ c.position.result c.position.ensures.ran
+    (YieldsList-from_slice begins_taken c.iter.ensures.rest) (λ x b q k. search (rules, tests)) in
+    rw (ran, c.from-base.ensures) (callee_found image c.args.begins.now (c.args.address - c.args.base) c.args.r begins (omega arith) ∙
+    sym (callee_above image _ _ _ e (omega arith)))

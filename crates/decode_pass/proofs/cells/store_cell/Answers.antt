@@ -8,8 +8,8 @@ use Rattle.decode_pass.proofs.cells.store_cell.Goals as goal
 pub overflow_sub-result : goal.overflow_sub-result
 overflow_sub-result c = omega (arith, c.bytes_wide-else-f-eq0.ensures, wide_some c.in-OnStack.w)
 
-pub overflow_cast-result-else-f-eq0 : goal.overflow_cast-result-else-f-eq0
-overflow_cast-result-else-f-eq0 c = omega (arith, c.bytes_wide-else-f-eq0.ensures, wide_most c.in-OnStack.w)
+pub overflow_cast-result : goal.overflow_cast-result
+overflow_cast-result c = omega (arith, c.bytes_wide-else-f-eq0.ensures, wide_most c.in-OnStack.w)
 
 pub overflow_add-result : goal.overflow_add-result
 overflow_add-result c = omega (arith, c.bytes_wide-else-f-eq0.ensures, wide_most c.in-OnStack.w)
@@ -34,7 +34,7 @@ returns-then-f-eq0 c = rw (c.in-OnStack.is, eq-eqb _ _ c.if-f-eq0.true)
 
 pub returns-else-f-eq0 : goal.returns-else-f-eq0
 unfolding store_cell
-returns-else-f-eq0 c = rw (c.in-OnStack.is, ne_eqb _ _ c.if-f-eq0.false, c.bytes_wide-else-f-eq0.ensures)
+returns-else-f-eq0 c = rw (c.in-OnStack.is, ne_eqb _ _ c.if-f-eq0.false, c.bytes_wide-else-f-eq0.ensures, c.from.ensures)
 
 pub returns-in-Pushed : goal.returns-in-Pushed
 unfolding store_cell

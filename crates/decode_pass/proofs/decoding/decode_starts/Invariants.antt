@@ -1,6 +1,5 @@
 -- `decode_pass::decoding::decode_starts` meets its contract. The loop's invariant: the starts below the next offset are decoded and stored.
-use Prim.Native.Nat.{ℕ, ◌-◌, ◌≤◌}
-use mathlib.Core.List.{List}
+use Rattle.std.proofs.Common.{ℕ, ◌-◌, ◌≤◌, List}
 use Rattle.decode_pass.specs.Pass.{Given, NoStarts}
 use Rattle.decode_pass.specs.Internal.{DecodedTo}
 use Rattle.decode_pass.proofs.decoding.decode_starts.Given as goal
