@@ -1,5 +1,7 @@
 -- Registers as text: A 11 X 2222 Y 3333 CC 44 SP 03FD PC 008000; and memory cells: 0010 55.
 use Rattle.std.specs.Prelude.{ℕ, ◌/◌, ◌%◌, List, [], ◌∷◌, ◌++◌, get_or}
+use Rattle.std.specs.List.{flat_map}
+use Rattle.std.specs.Fmt.{decimal}
 use Rattle.numbers.specs.Ascii.{ascii}
 use Rattle.numbers.specs.Words.{word}
 use Rattle.notation.specs.Notation.{byte_digits, word_digits}
@@ -25,3 +27,7 @@ cells_text memory [] = []
 cells_text memory (h ∷ []) = []
 cells_text memory (h ∷ l ∷ []) = []
 cells_text memory (h ∷ l ∷ byte ∷ cells) = ascii ", " ++ cell_text (word h l) (get_or memory (word h l) 0) ++ cells_text memory cells
+
+-- marks, each after a space
+abbrev pub marks_text : List ℕ → List ℕ
+marks_text marks = ascii ", marks" ++ flat_map (λ mark. 0x20 ∷ decimal mark) marks

@@ -3,7 +3,7 @@
 
 ghost use Rattle.std.specs.Prelude.{◌≡◌, Some};
 ghost use Rattle.vectors.specs.Bytes.{long_at, registers_of, with_cells};
-ghost use Rattle.vectors.specs.Text.{registers_text, cell_text, cells_text};
+ghost use Rattle.vectors.specs.Text.{registers_text, cell_text, cells_text, marks_text};
 
 use machine::Registers;
 use numbers::words::{byte_at, put_byte, word, word_at};
@@ -102,6 +102,22 @@ impl<'a> fmt::Display for CellsText<'a> {
             let byte = byte_at(self.memory, address as usize);
             write!(f, ", {}", CellText { address, byte })?;
             rest = others;
+        }
+        Ok(())
+    }
+}
+
+/// Marks as text, in decimal.
+#[derive(Clone, Copy)]
+pub struct MarksText<'a>(pub &'a [u16]);
+
+impl<'a> fmt::Display for MarksText<'a> {
+    ghost output = { λ t. Some (marks_text t.0.now) };
+
+    fn fmt<W: fmt::Write>(&self, f: &mut fmt::Formatter<W>) -> fmt::Result {
+        write!(f, ", marks")?;
+        for mark in self.0 {
+            write!(f, " {mark}")?;
         }
         Ok(())
     }
