@@ -3,7 +3,7 @@
 #![tactic(auto)]
 
 use cycles::Timed;
-use disassembly::{LONGEST, Written};
+use disassembly::LONGEST;
 use notation::hex_digit;
 use std::io;
 use std::io::Write;
@@ -29,7 +29,7 @@ fn print_cycles(out: &mut impl Write, cycles: Cycles) -> io::Result<()> {
 
 fn print_text(out: &mut impl Write, i: Instruction) -> io::Result<()> {
     let mut buffer = [0u8; LONGEST];
-    let Written::Bytes(n) = disassembly::disassemble(i, ADDRESS, &mut buffer) else {
+    let Ok(n) = disassembly::disassemble(i, ADDRESS, &mut buffer) else {
         return Ok(());
     };
     print(out, b" ")?;

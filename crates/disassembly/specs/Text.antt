@@ -1,5 +1,5 @@
 -- The text of an instruction, by document 01: its name and its operands, jumps and calls as $ and the four-digit target; and a text in a buffer.
-use Rattle.std.specs.Prelude.{ℕ, ◌+◌, ◌%◌, List, [], ◌∷◌, ◌++◌, cond, ltb, length, drop}
+use Rattle.std.specs.Prelude.{ℕ, ◌+◌, ◌%◌, List, [], ◌∷◌, ◌++◌, cond, ltb, length, drop, Result, Ok, Err}
 use Rattle.numbers.specs.Ascii.{ascii}
 use Rattle.stm8.specs.Effects.{relative}
 use Rattle.stm8.specs.Encoding.{bytes_of}
@@ -9,8 +9,7 @@ use Rattle.stm8.specs.declared.Instruction.{Instruction}
 use Rattle.stm8.specs.declared.Instruction.TheVariants.{Alu, Store, LoadHalf, StoreHalf, Modify, LoadWord, StoreWord, CopyWord, WordAlu, WordModify, Pushw, Popw, Exgw, Mul, Bit, BitJump, Mov, Push, Pop, SubSp, AddSp, Jump, Call, Callr, Ret, Nop, Flag}
 use Rattle.notation.specs.Names.{alu_name, modify_name, word_alu_name, word_modify_name, bit_name, test_name, condition_name, flag_name}
 use Rattle.notation.specs.Notation.{word_text, bit_position, register_text, half_text, operand_text, line}
-use Rattle.disassembly.specs.declared.Written.{Written}
-use Rattle.disassembly.specs.declared.Written.TheVariants.{Bytes, TooShort}
+use Rattle.disassembly.specs.declared.TooShort.{TooShort}
 
 -- the four digits of where a relative jump or call goes: taken modulo 10000, below 0 too
 unfoldable pub target : ℕ → ℕ → ℕ
@@ -51,5 +50,5 @@ unfoldable pub text : ℕ → Instruction → List ℕ
 text address i = text_before (address + length (bytes_of i)) i
 
 -- a text goes to the start of a buffer that has room for it; one that has not is refused, and stays as it was
-unfoldable pub placed : List ℕ → List ℕ → Written × List ℕ
-placed s buffer = cond (ltb (length buffer) (length s)) (TooShort, buffer) (Bytes (length s), s ++ drop (length s) buffer)
+unfoldable pub placed : List ℕ → List ℕ → Result ℕ TooShort × List ℕ
+placed s buffer = cond (ltb (length buffer) (length s)) (Err (record {}), buffer) (Ok (length s), s ++ drop (length s) buffer)

@@ -1,17 +1,23 @@
 // The text of an instruction: its name, and the operands after it.
-ghost use Rattle.std.specs.Prelude.{◌≡◌, cond, ◌+◌, leb};
-ghost use Rattle.notation.specs.Writing.{Wrote};
+#![tactic(auto, unfolding(crate::specs::Text::text))]
+
+ghost use Rattle.std.specs.Prelude.{◌≡◌, [], cond, ◌+◌, leb};
+ghost use Rattle.stm8.specs.IndexRegisters.{other_of};
+ghost use Rattle.stm8.specs.declared.Operand.TheVariants as Operand;
+ghost use Rattle.notation.specs.Writing.{appended};
+ghost use Rattle.notation.specs.declared.lines.Shown.TheVariants as Shown;
 ghost use Rattle.disassembly.specs.Text.{target as target_of, text as text_of};
 
 use effects::relative;
-use notation::names::{
-    alu_name, bit_name, condition_name, flag_name, modify_name, test_name, word_alu_name,
-    word_modify_name,
-};
-use notation::{LONGEST, lines, names};
-use stm8::{Instruction, Register};
+use notation::{LONGEST, Named, Shown, Text, line};
+use stm8::{Instruction, Operand, Register};
+
+const A: Shown = Shown::Operand(Operand::Accumulator);
+
+const SP: Shown = Shown::StackPointer;
 
 // The target of a jump of so many bytes at an address.
+#[tactic(auto, unfolding(crate::specs::Text::target))]
 fn target(address: u16, length: u8, n: u8) -> u16
     ensures { result ≡ target_of (address + length) n }
 {
@@ -26,43 +32,69 @@ fn bit_jump_length(position: u8) -> u8
     if position <= 7 { 5 } else { 0 }
 }
 
-// The text of the instruction at an address.
-pub fn text_of(i: Instruction, here: u16, t: &mut [u8; LONGEST]) -> usize
-    ensures { Wrote 0 t.old (text_of here i) result t.new }
+// The index register that r is not.
+fn other(r: Register) -> Register
+    ensures { result ≡ other_of r }
+{
+    match r {
+        Register::X => Register::Y,
+        Register::Y => Register::X,
+    }
+}
+
+fn address(a: u16) -> Shown
+    ensures { result ≡ Shown.Operand (Operand.Long a) }
+{
+    Shown::Operand(Operand::Long(a))
+}
+
+/// The text of the instruction at an address.
+pub fn text_of(i: Instruction, here: u16) -> Text<LONGEST>
+    ensures { result ≡ appended LONGEST [] (text_of here i) }
 {
     match i {
-        Instruction::Alu(o, x) => lines::accumulator_operand(alu_name(o), x, t),
-        Instruction::Store(x) => lines::operand_accumulator(names::LD, x, t),
-        Instruction::LoadHalf(r, h) => lines::accumulator_half(names::LD, r, h, t),
-        Instruction::StoreHalf(r, h) => lines::half_accumulator(names::LD, r, h, t),
-        Instruction::Modify(o, x) => lines::operand(modify_name(o), x, t),
-        Instruction::LoadWord(r, x) => lines::register_operand(names::LDW, r, x, t),
-        Instruction::StoreWord(r, x) => lines::operand_register(names::LDW, x, r, t),
-        Instruction::CopyWord(r) => lines::both_registers(names::LDW, r, t),
-        Instruction::WordAlu(o, r, w) => lines::register_immediate(word_alu_name(o), r, w, t),
-        Instruction::WordModify(o, r) => lines::register(word_modify_name(o), r, t),
-        Instruction::Pushw(r) => lines::register(names::PUSHW, r, t),
-        Instruction::Popw(r) => lines::register(names::POPW, r, t),
-        Instruction::Exgw => lines::both_registers(names::EXGW, Register::X, t),
-        Instruction::Mul(r) => lines::register_accumulator(names::MUL, r, t),
-        Instruction::Bit(o, n, w) => lines::address_bit(bit_name(o), w, n, t),
-        Instruction::BitJump(o, n, w, j) => lines::address_bit_address(
-            test_name(o),
-            w,
-            n,
-            target(here, bit_jump_length(n), j),
-            t,
+        Instruction::Alu(o, x) => line(o.name(), &[A, Shown::Operand(x)]),
+        Instruction::Store(x) => line("LD", &[Shown::Operand(x), A]),
+        Instruction::LoadHalf(r, h) => line("LD", &[A, Shown::Half(r, h)]),
+        Instruction::StoreHalf(r, h) => line("LD", &[Shown::Half(r, h), A]),
+        Instruction::Modify(o, x) => line(o.name(), &[Shown::Operand(x)]),
+        Instruction::LoadWord(r, x) => line("LDW", &[Shown::Register(r), Shown::Operand(x)]),
+        Instruction::StoreWord(r, x) => line("LDW", &[Shown::Operand(x), Shown::Register(r)]),
+        Instruction::CopyWord(r) => line("LDW", &[Shown::Register(r), Shown::Register(other(r))]),
+        Instruction::WordAlu(o, r, w) => line(
+            o.name(),
+            &[
+                Shown::Register(r),
+                Shown::Operand(Operand::ImmediateWord(w)),
+            ],
         ),
-        Instruction::Mov(to, from) => lines::two_operands(names::MOV, to, from, t),
-        Instruction::Push(x) => lines::operand(names::PUSH, x, t),
-        Instruction::Pop(x) => lines::operand(names::POP, x, t),
-        Instruction::SubSp(n) => lines::stack_pointer_immediate(names::SUB, n, t),
-        Instruction::AddSp(n) => lines::stack_pointer_immediate(names::ADDW, n, t),
-        Instruction::Jump(o, n) => lines::address(condition_name(o), target(here, 2, n), t),
-        Instruction::Call(w) => lines::address(names::CALL, w, t),
-        Instruction::Callr(n) => lines::address(names::CALLR, target(here, 2, n), t),
-        Instruction::Ret => lines::named(names::RET, t),
-        Instruction::Nop => lines::named(names::NOP, t),
-        Instruction::Flag(o) => lines::named(flag_name(o), t),
+        Instruction::WordModify(o, r) => line(o.name(), &[Shown::Register(r)]),
+        Instruction::Pushw(r) => line("PUSHW", &[Shown::Register(r)]),
+        Instruction::Popw(r) => line("POPW", &[Shown::Register(r)]),
+        Instruction::Exgw => line(
+            "EXGW",
+            &[Shown::Register(Register::X), Shown::Register(Register::Y)],
+        ),
+        Instruction::Mul(r) => line("MUL", &[Shown::Register(r), A]),
+        Instruction::Bit(o, n, w) => line(o.name(), &[address(w), Shown::Position(n)]),
+        Instruction::BitJump(o, n, w, j) => line(
+            o.name(),
+            &[
+                address(w),
+                Shown::Position(n),
+                address(target(here, bit_jump_length(n), j)),
+            ],
+        ),
+        Instruction::Mov(to, from) => line("MOV", &[Shown::Operand(to), Shown::Operand(from)]),
+        Instruction::Push(x) => line("PUSH", &[Shown::Operand(x)]),
+        Instruction::Pop(x) => line("POP", &[Shown::Operand(x)]),
+        Instruction::SubSp(n) => line("SUB", &[SP, Shown::Operand(Operand::Immediate(n))]),
+        Instruction::AddSp(n) => line("ADDW", &[SP, Shown::Operand(Operand::Immediate(n))]),
+        Instruction::Jump(o, n) => line(o.name(), &[address(target(here, 2, n))]),
+        Instruction::Call(w) => line("CALL", &[address(w)]),
+        Instruction::Callr(n) => line("CALLR", &[address(target(here, 2, n))]),
+        Instruction::Ret => line("RET", &[]),
+        Instruction::Nop => line("NOP", &[]),
+        Instruction::Flag(o) => line(o.name(), &[]),
     }
 }

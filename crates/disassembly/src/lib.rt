@@ -3,29 +3,28 @@
 
 mod instructions;
 
-ghost use Rattle.std.specs.Prelude.{◌≡◌};
+ghost use Rattle.std.specs.Prelude.{◌≡◌, ◌≤◌, length, IfOk};
 ghost use Rattle.disassembly.specs.Text.{text as text_of, placed};
 
-use instructions::text_of;
+pub use instructions::text_of;
 pub use notation::LONGEST;
 use stm8::Instruction;
 
-// How many bytes were written, or that the buffer has no room for them.
-#[derive(Clone, Copy)]
-pub enum Written {
-    Bytes(usize),
-    TooShort,
-}
+/// A buffer has no room for what was to be written to it.
+#[derive(Clone, Copy, Debug, PartialEq, Eq)]
+pub struct TooShort;
 
-// Writes the text of the instruction at an address to the start of the buffer.
-pub fn disassemble(i: Instruction, address: u16, buffer: &mut [u8]) -> Written
-    ensures { (result, buffer.new) ≡ placed (text_of address i) buffer.old }
+/// Writes the text of the instruction at an address to the start of the buffer, and answers how many bytes that is.
+#[tactic(auto, using(crate::proofs::Placing::text_whole), unfolding(crate::specs::Text::placed))]
+pub fn disassemble(i: Instruction, address: u16, buffer: &mut [u8]) -> Result<usize, TooShort>
+    ensures text { (result, buffer.new) ≡ placed (text_of address i) buffer.old }
+    ensures within { IfOk result (λ n. n ≤ length buffer.new) }
 {
-    let mut letters = [0u8; LONGEST];
-    let n = text_of(i, address, &mut letters);
-    if buffer.len() < n {
-        return Written::TooShort;
+    let text = text_of(i, address);
+    let letters = text.as_bytes();
+    if buffer.len() < letters.len() {
+        return Err(TooShort);
     }
-    slices::copy(&letters[..n], buffer);
-    Written::Bytes(n)
+    slices::copy(letters, buffer);
+    Ok(letters.len())
 }

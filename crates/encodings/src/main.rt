@@ -3,7 +3,7 @@
 #![tactic(auto)]
 
 use console::read_full;
-use disassembly::{LONGEST, Written};
+use disassembly::LONGEST;
 use hexadecimal::parse;
 use slices::find;
 use std::num::wrapping_add_u64;
@@ -27,7 +27,7 @@ struct Totals {
 
 fn text_differs(i: Instruction, text: &[u8]) -> bool {
     let mut buffer = [0u8; LONGEST];
-    let Written::Bytes(n) = disassembly::disassemble(i, ADDRESS, &mut buffer) else {
+    let Ok(n) = disassembly::disassemble(i, ADDRESS, &mut buffer) else {
         return true;
     };
     !check::same(&buffer[..n], text)

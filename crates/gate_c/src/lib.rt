@@ -326,7 +326,7 @@ fn put_text(found: Decoded, address: u16, text: &mut [u8; 24])
     *text = [0u8; 24];
     match found {
         Decoded::Found(i, _) => {
-            disassemble(i, address, &mut text[..]);
+            let _ = disassemble(i, address, &mut text[..]);
         }
         Decoded::Outside => {}
         Decoded::Truncated => {}

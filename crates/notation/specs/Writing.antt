@@ -1,28 +1,21 @@
--- How the code goes about a text: a name in five letters, and a text that grows at its end. The contract of `disassemble` cites none of it.
-use Rattle.std.specs.Prelude.{ℕ, ◌+◌, ◌≡◌, List, [], ◌∷◌, cond, eqb, ltb, set}
-
--- a name without its spaces
-abbrev pub trimmed : List ℕ → List ℕ
-trimmed [] = []
-trimmed (b ∷ s) = cond (eqb b 32) (trimmed s) (b ∷ trimmed s)
+-- How the code goes about a text: one that grows at its end, and what a line shows after its name. The contract of `disassemble` cites none of it.
+use Rattle.std.specs.Prelude.{ℕ, List, ◌++◌, ◌-◌, length, take}
+use Rattle.numbers.specs.Ascii.{ascii}
+use Rattle.notation.specs.Notation.{bit_position, half_text, operand_text, register_text}
+use Rattle.notation.specs.declared.lines.Shown.{Shown}
+use Rattle.notation.specs.declared.lines.Shown.TheVariants.{Operand, Register, Half, StackPointer, Position}
 
 -- the cells of a text: that none is longer is a theorem
 abbrev pub longest : ℕ
 longest = 23
 
--- a text that is being written: its cells, and how many of them are letters
-pub record Text : Type 0 where
-  pub letters : List ℕ
-  pub length : ℕ
+-- a text of at most n letters with others after it, as far as there is room for them
+unfoldable pub appended : ℕ → List ℕ → List ℕ → List ℕ
+appended n text letters = text ++ take (n - length text) letters
 
--- with one byte more, where it is not full, and with several
-unfoldable pub pushed : Text → ℕ → Text
-pushed t b = cond (ltb t.length longest) (record { letters = set t.letters t.length b; length = t.length + 1 }) t
-
-abbrev pub wrote : Text → List ℕ → Text
-wrote t [] = t
-wrote t (b ∷ s) = wrote (pushed t b) s
-
--- bytes are written to cells from one index on, up to another
-pub record Wrote (from : ℕ) (before bytes : List ℕ) (to : ℕ) (after : List ℕ) : Type 0 where
-  pub is : ◌≡◌ {A = Text} (record { letters = after; length = to }) (wrote (record { letters = before; length = from }) bytes)
+abbrev pub shown_text : Shown → List ℕ
+shown_text (Operand x) = operand_text x
+shown_text (Register r) = register_text r
+shown_text (Half r h) = half_text r h
+shown_text StackPointer = ascii "SP"
+shown_text (Position n) = bit_position n

@@ -1,11 +1,13 @@
 // The manual's assembler column notation: names, operands, and the lines that they make, written in place.
 #![tactic(auto)]
 
-pub mod lines;
-pub mod names;
-mod writing;
+mod lines;
+mod names;
+mod text;
 
-pub use writing::hex_digit;
+pub use lines::{Shown, line};
+pub use names::Named;
+pub use text::{Text, hex_digit};
 
-// The cells that a text is written to: no text is longer.
+// No line is longer.
 pub const LONGEST: usize = 23;

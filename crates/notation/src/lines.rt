@@ -1,193 +1,119 @@
-// Lines written in place: a name, without the spaces that fill it up to five letters, and the operands after it. A function has the name of its
-// operands, in their order, and answers the length of the line.
-ghost use Rattle.std.specs.Prelude.{[], ◌∷◌};
-ghost use Rattle.numbers.specs.Ascii.{ascii};
-ghost use Rattle.stm8.specs.IndexRegisters.{other_of};
-ghost use Rattle.stm8.specs.declared.Operand.TheVariants.{Immediate, ImmediateWord};
-ghost use Rattle.notation.specs.Notation.{word_text, bit_position, register_text, half_text, operand_text, line};
-ghost use Rattle.notation.specs.Writing.{trimmed, Wrote};
+// A line: a name, and what stands after it.
+#![tactic(auto, using(crate::proofs::Growing::appended_twice, crate::proofs::Growing::appended_none))]
 
-use crate::writing::push_letter;
-use crate::{LONGEST, writing};
-use stm8::{Half, Operand, Register};
+ghost use Rattle.std.specs.Prelude.{◌≡◌, ℕ, [], List, map};
+ghost use Rattle.notation.specs.Notation.{bit_position, half_text, offset_text, operand_text, register_text, line};
+ghost use Rattle.notation.specs.Writing.{appended, shown_text};
 
-// A name alone.
-pub fn named(name: [u8; 5], text: &mut [u8; LONGEST]) -> usize
-    ensures { Wrote 0 text.old (trimmed name) result text.new }
+use crate::LONGEST;
+use crate::text::{Text, hex_digit};
+use stm8::{Half, Offset, Operand, Register};
+
+/// What stands after a name.
+#[derive(Clone, Copy)]
+pub enum Shown {
+    Operand(Operand),
+    Register(Register),
+    Half(Register, Half),
+    StackPointer,
+    Position(u8),
+}
+
+/// A name and what stands after it: a space before the first, a comma before each other.
+pub fn line(name: &str, operands: &[Shown]) -> Text<LONGEST>
+    ensures { result ≡ appended LONGEST [] (line name.now (map shown_text operands.now)) }
 {
-    let mut at = 0;
-    let mut i = 0;
-    while i < 5 {
-        at = push_letter(at, name[i], text);
-        i += 1;
+    let mut text = Text::new();
+    text.push_all(name.as_bytes());
+    let mut separator = b' ';
+    for &operand in operands {
+        text.push(separator);
+        push_shown(&mut text, operand);
+        separator = b',';
     }
-    at
+    text
 }
 
-pub fn operand(name: [u8; 5], x: Operand, text: &mut [u8; LONGEST]) -> usize
-    ensures { Wrote 0 text.old (line (trimmed name) (operand_text x ∷ [])) result text.new }
+fn push_shown(text: &mut Text<LONGEST>, shown: Shown)
+    ensures { text.new ≡ appended LONGEST text.old (shown_text shown) }
 {
-    writing::operand(named(name, text), b' ', x, text)
+    match shown {
+        Shown::Operand(x) => push_operand(text, x),
+        Shown::Register(r) => push_register(text, r),
+        Shown::Half(r, h) => {
+            push_register(text, r);
+            text.push(match h {
+                Half::Low => b'L',
+                Half::High => b'H',
+            });
+        }
+        Shown::StackPointer => text.push_all(b"SP"),
+        Shown::Position(n) => {
+            text.push(b'#');
+            text.push(hex_digit(n));
+        }
+    }
 }
 
-pub fn two_operands(name: [u8; 5], to: Operand, from: Operand, text: &mut [u8; LONGEST]) -> usize
-    ensures { Wrote 0 text.old (line (trimmed name) (operand_text to ∷ operand_text from ∷ [])) result text.new }
+fn push_operand(text: &mut Text<LONGEST>, x: Operand)
+    ensures { text.new ≡ appended LONGEST text.old (operand_text x) }
 {
-    writing::operand(
-        writing::operand(named(name, text), b' ', to, text),
-        b',',
-        from,
-        text,
-    )
+    match x {
+        Operand::Accumulator => text.push(b'A'),
+        Operand::Immediate(n) => {
+            text.push_all(b"#$");
+            text.push_byte(n);
+        }
+        Operand::ImmediateWord(w) => {
+            text.push_all(b"#$");
+            text.push_word(w);
+        }
+        Operand::Short(a) => {
+            text.push(b'$');
+            text.push_byte(a);
+        }
+        Operand::Long(a) => {
+            text.push(b'$');
+            text.push_word(a);
+        }
+        Operand::Indexed(r, f) => {
+            text.push(b'(');
+            push_offset(text, f);
+            push_register(text, r);
+            text.push(b')');
+        }
+        Operand::Sp(n) => {
+            text.push_all(b"($");
+            text.push_byte(n);
+            text.push_all(b",SP)");
+        }
+    }
 }
 
-pub fn accumulator_operand(name: [u8; 5], x: Operand, text: &mut [u8; LONGEST]) -> usize
-    ensures { Wrote 0 text.old (line (trimmed name) (ascii "A" ∷ operand_text x ∷ [])) result text.new }
+// An offset in front of its register.
+fn push_offset(text: &mut Text<LONGEST>, f: Offset)
+    ensures { text.new ≡ appended LONGEST text.old (offset_text f) }
 {
-    writing::operand(
-        writing::letter(named(name, text), b' ', b'A', text),
-        b',',
-        x,
-        text,
-    )
+    match f {
+        Offset::Zero => {}
+        Offset::Byte(n) => {
+            text.push(b'$');
+            text.push_byte(n);
+            text.push(b',');
+        }
+        Offset::Word(w) => {
+            text.push(b'$');
+            text.push_word(w);
+            text.push(b',');
+        }
+    }
 }
 
-pub fn operand_accumulator(name: [u8; 5], x: Operand, text: &mut [u8; LONGEST]) -> usize
-    ensures { Wrote 0 text.old (line (trimmed name) (operand_text x ∷ ascii "A" ∷ [])) result text.new }
+fn push_register(text: &mut Text<LONGEST>, r: Register)
+    ensures { text.new ≡ appended LONGEST text.old (register_text r) }
 {
-    writing::letter(
-        writing::operand(named(name, text), b' ', x, text),
-        b',',
-        b'A',
-        text,
-    )
-}
-
-pub fn accumulator_half(name: [u8; 5], r: Register, h: Half, text: &mut [u8; LONGEST]) -> usize
-    ensures { Wrote 0 text.old (line (trimmed name) (ascii "A" ∷ half_text r h ∷ [])) result text.new }
-{
-    writing::half(
-        writing::letter(named(name, text), b' ', b'A', text),
-        b',',
-        r,
-        h,
-        text,
-    )
-}
-
-pub fn half_accumulator(name: [u8; 5], r: Register, h: Half, text: &mut [u8; LONGEST]) -> usize
-    ensures { Wrote 0 text.old (line (trimmed name) (half_text r h ∷ ascii "A" ∷ [])) result text.new }
-{
-    writing::letter(
-        writing::half(named(name, text), b' ', r, h, text),
-        b',',
-        b'A',
-        text,
-    )
-}
-
-pub fn register(name: [u8; 5], r: Register, text: &mut [u8; LONGEST]) -> usize
-    ensures { Wrote 0 text.old (line (trimmed name) (register_text r ∷ [])) result text.new }
-{
-    writing::register(named(name, text), b' ', r, text)
-}
-
-pub fn register_operand(name: [u8; 5], r: Register, x: Operand, text: &mut [u8; LONGEST]) -> usize
-    ensures { Wrote 0 text.old (line (trimmed name) (register_text r ∷ operand_text x ∷ [])) result text.new }
-{
-    writing::operand(
-        writing::register(named(name, text), b' ', r, text),
-        b',',
-        x,
-        text,
-    )
-}
-
-pub fn operand_register(name: [u8; 5], x: Operand, r: Register, text: &mut [u8; LONGEST]) -> usize
-    ensures { Wrote 0 text.old (line (trimmed name) (operand_text x ∷ register_text r ∷ [])) result text.new }
-{
-    writing::register(
-        writing::operand(named(name, text), b' ', x, text),
-        b',',
-        r,
-        text,
-    )
-}
-
-pub fn register_immediate(name: [u8; 5], r: Register, w: u16, text: &mut [u8; LONGEST]) -> usize
-    ensures { Wrote 0 text.old (line (trimmed name) (register_text r ∷ operand_text (ImmediateWord w) ∷ [])) result text.new }
-{
-    writing::operand(
-        writing::register(named(name, text), b' ', r, text),
-        b',',
-        Operand::ImmediateWord(w),
-        text,
-    )
-}
-
-pub fn register_accumulator(name: [u8; 5], r: Register, text: &mut [u8; LONGEST]) -> usize
-    ensures { Wrote 0 text.old (line (trimmed name) (register_text r ∷ ascii "A" ∷ [])) result text.new }
-{
-    writing::letter(
-        writing::register(named(name, text), b' ', r, text),
-        b',',
-        b'A',
-        text,
-    )
-}
-
-// An index register, and then the other one.
-pub fn both_registers(name: [u8; 5], r: Register, text: &mut [u8; LONGEST]) -> usize
-    ensures { Wrote 0 text.old (line (trimmed name) (register_text r ∷ register_text (other_of r) ∷ [])) result text.new }
-{
-    writing::other(
-        writing::register(named(name, text), b' ', r, text),
-        b',',
-        r,
-        text,
-    )
-}
-
-pub fn stack_pointer_immediate(name: [u8; 5], b: u8, text: &mut [u8; LONGEST]) -> usize
-    ensures { Wrote 0 text.old (line (trimmed name) (ascii "SP" ∷ operand_text (Immediate b) ∷ [])) result text.new }
-{
-    writing::operand(
-        writing::stack_pointer(named(name, text), b' ', text),
-        b',',
-        Operand::Immediate(b),
-        text,
-    )
-}
-
-pub fn address(name: [u8; 5], a: u16, text: &mut [u8; LONGEST]) -> usize
-    ensures { Wrote 0 text.old (line (trimmed name) (word_text a ∷ [])) result text.new }
-{
-    writing::address(named(name, text), b' ', a, text)
-}
-
-pub fn address_bit(name: [u8; 5], a: u16, p: u8, text: &mut [u8; LONGEST]) -> usize
-    ensures { Wrote 0 text.old (line (trimmed name) (word_text a ∷ bit_position p ∷ [])) result text.new }
-{
-    writing::position(
-        writing::address(named(name, text), b' ', a, text),
-        b',',
-        p,
-        text,
-    )
-}
-
-pub fn address_bit_address(name: [u8; 5], a: u16, p: u8, to: u16, text: &mut [u8; LONGEST]) -> usize
-    ensures { Wrote 0 text.old (line (trimmed name) (word_text a ∷ bit_position p ∷ word_text to ∷ [])) result text.new }
-{
-    writing::address(
-        writing::position(
-            writing::address(named(name, text), b' ', a, text),
-            b',',
-            p,
-            text,
-        ),
-        b',',
-        to,
-        text,
-    )
+    text.push(match r {
+        Register::X => b'X',
+        Register::Y => b'Y',
+    });
 }

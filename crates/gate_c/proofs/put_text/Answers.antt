@@ -5,10 +5,11 @@ use mathlib.Core.List.{List}
 use lib.Dec.{lit≤}
 use lib.ListN.{replicate}
 use Rattle.disassembly.proofs.Placing.{text_placed}
-use Rattle.disassembly.specs.declared.Written.{Written}
+use Rattle.std.proofs.Common.{Result}
+use Rattle.disassembly.specs.declared.TooShort.{TooShort}
 use Rattle.gate_c.proofs.put_text.Goals as goal
 
 pub returns-in-Found : goal.returns-in-Found
 returns-in-Found c =
     rw c.in-Found.is
-    (ap (λ (x : Written × List ℕ). x.1) (c.disassemble.ensures ∙ text_placed _ _ (replicate 24 0) (lit≤ tt)))
+    (ap (λ (x : Result ℕ TooShort × List ℕ). x.1) (c.disassemble.ensures.text ∙ text_placed _ _ (replicate 24 0) (lit≤ tt)))

@@ -1,6 +1,0 @@
--- `notation::lines::address` meets its contract.
-use Rattle.notation.proofs.Growing.{◌then◌, nothing}
-use Rattle.notation.proofs.lines.address.Goals as goal
-
-pub returns : goal.returns
-returns c = c.named.ensures then c.address.ensures then nothing
