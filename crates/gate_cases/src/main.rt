@@ -50,8 +50,8 @@ fn print_figures(out: &mut impl Write, word: &[u8], a: u16, b: u16) -> io::Resul
 
 fn print_verdict(out: &mut impl Write, v: Verdict) -> io::Result<()> {
     match v {
-        Verdict::Accepted(need, count) => print_figures(out, b"accepted ", need, count),
-        Verdict::Refused(number, offset) => print_figures(out, b"refused ", number as u16, offset),
+        Ok(accepted) => print_figures(out, b"accepted ", accepted.need, accepted.count),
+        Err(refused) => print_figures(out, b"refused ", refused.number as u16, refused.offset),
     }
 }
 
@@ -272,11 +272,11 @@ fn start_case(
     print_marks(out, marks)?;
     print(out, b"; start")?;
     match verdict {
-        Verdict::Refused(_, _) => print_state(out, registers, memory, limits, 0),
-        Verdict::Accepted(need, _) => {
-            print_state(out, registers, memory, limits, need)?;
+        Err(_) => print_state(out, registers, memory, limits, 0),
+        Ok(accepted) => {
+            print_state(out, registers, memory, limits, accepted.need)?;
             let _again = start(case, image, marks, other);
-            print_runs(out, image, limits, need, registers, memory, other)
+            print_runs(out, image, limits, accepted.need, registers, memory, other)
         }
     }
 }
