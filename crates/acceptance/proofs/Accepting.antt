@@ -14,8 +14,8 @@ use Rattle.rules.specs.Before.{RulesBefore}
 use Rattle.rules.specs.Refusal.{Refusal}
 use Rattle.rules.specs.Acceptance.{Acceptable, AcceptedMarks, PastCode}
 use Rattle.rules.specs.Outcome.{Outcome, invalid, few, refused, accepted}
-use Rattle.rules.specs.declared.Verdict.{Verdict}
-use Rattle.rules.specs.declared.Verdict.TheVariants.{Accepted, Refused}
+use Rattle.rules.specs.Verdict.{Verdict}
+use Rattle.rules.specs.Verdict.{Accepted, Refused}
 use Rattle.rules.proofs.Unique.{one_depth}
 use Rattle.rules.proofs.Kept.{acceptance_kept}
 use Rattle.rules.proofs.OneOutcome.{one_outcome, acceptable_verdict, rules_stand}

@@ -21,8 +21,8 @@ use Rattle.image.proofs.Measuring.{end_inside}
 use Rattle.rules.specs.Rules.{reported_need}
 use Rattle.rules.specs.Refusal.{RoutineRefusal}
 use Rattle.rules.specs.Outcome.{Outcome, invalid, few}
-use Rattle.rules.specs.declared.Verdict.{Verdict}
-use Rattle.rules.specs.declared.Verdict.TheVariants.{Accepted}
+use Rattle.rules.specs.Verdict.{Verdict}
+use Rattle.rules.specs.Verdict.{Accepted}
 use Rattle.acceptance.specs.Passed.{need_in, RoutineChecked, RoutinesPassed}
 use Rattle.code.specs.Instructions.{starts_of}
 use Rattle.acceptance.specs.Check.{Refusing, nowhere, first_at, flow_refusing, routine_refusing, Sweeping, passed_by, routines_from, swept, routine_need}

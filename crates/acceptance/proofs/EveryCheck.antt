@@ -8,7 +8,7 @@ use Rattle.image.specs.declared.Limits.{Limits}
 use Rattle.image.specs.Image.{size_of}
 use Rattle.rules.specs.Acceptance.{RefusedMarks, RefusedAs, PastCode}
 use Rattle.rules.specs.Outcome.{VerdictNumbered}
-use Rattle.rules.specs.declared.Verdict.TheVariants.{Refused}
+use Rattle.rules.specs.Verdict.{Refused}
 use Rattle.rules.proofs.OneOutcome as Outcomes
 use Rattle.rules.proofs.EveryOutcome as Outcome
 use Rattle.acceptance.specs.Check.{checked}

@@ -17,7 +17,7 @@ use Rattle.rules.specs.Rules.{reported_need}
 use Rattle.rules.specs.Refusal.{RoutineRefusal, in_routine, no_room}
 use Rattle.rules.specs.Acceptance.{Acceptable, AcceptedMarks}
 use Rattle.rules.specs.Outcome.{Outcome, refused, accepted}
-use Rattle.rules.specs.declared.Verdict.TheVariants.{Accepted, Refused}
+use Rattle.rules.specs.Verdict.{Accepted, Refused}
 use Rattle.code.proofs.Starts.{start_high}
 use Rattle.rules.proofs.Passing.{rules_pass}
 use Rattle.rules.proofs.EveryOutcome.{front_mark, front_past}

@@ -13,7 +13,7 @@ use Rattle.image.specs.Image.{version_of, count_of, code_of, end_of}
 use Rattle.code.specs.Set.{allowed}
 use Rattle.code.specs.Code.{decoded_at, Start}
 use Rattle.code.proofs.Sets.{found_in_set}
-use Rattle.rules.specs.declared.Verdict.TheVariants.{Accepted}
+use Rattle.rules.specs.Verdict.{Accepted}
 use Rattle.acceptance.specs.Check.{checked}
 use Rattle.acceptance.proofs.Accepting.{accept_sound}
 

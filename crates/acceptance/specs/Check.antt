@@ -9,8 +9,8 @@ use Rattle.image.specs.Image.{count_of, size_of, start_of, end_of}
 use Rattle.rules.specs.Rules.{reported_need}
 use Rattle.code.specs.Code.{instruction_at}
 use Rattle.code.specs.Instructions.{starts_of}
-use Rattle.rules.specs.declared.Verdict.{Verdict}
-use Rattle.rules.specs.declared.Verdict.TheVariants.{Accepted, Refused}
+use Rattle.rules.specs.Verdict.{Verdict}
+use Rattle.rules.specs.Verdict.{Accepted, Refused}
 use Rattle.control_flow.specs.Graph.{cells}
 use Rattle.control_flow.specs.Routine.{jump_check, depth_check, count_from}
 use Rattle.control_flow.specs.Measuring.{use_at}

@@ -13,8 +13,8 @@ use Rattle.image.proofs.Layouts.{count_is}
 use Rattle.image.proofs.Validity.{rules_valid}
 use Rattle.rules.specs.Rules.{reported_need}
 use Rattle.rules.specs.Outcome.{Outcome}
-use Rattle.rules.specs.declared.Verdict.{Verdict}
-use Rattle.rules.specs.declared.Verdict.TheVariants.{Accepted}
+use Rattle.rules.specs.Verdict.{Verdict}
+use Rattle.rules.specs.Verdict.{Accepted}
 use Rattle.acceptance.specs.Check.{checked}
 use Rattle.acceptance.specs.Passed.{need_in}
 use Rattle.acceptance.proofs.Accepting.{accepted_exactly}

@@ -1,11 +1,11 @@
 -- What the private functions of the check ask of each other. No public contract cites it.
-use Rattle.std.specs.Prelude.{ℕ, ◌+◌, ◌-◌, ◌*◌, ◌≤◌, ◌<◌, ◌≡◌, List, ◌++◌, length, get_or, drop, replicate}
+use Rattle.std.specs.Prelude.{Ok, Err, ℕ, ◌+◌, ◌-◌, ◌*◌, ◌≤◌, ◌<◌, ◌≡◌, List, ◌++◌, length, get_or, drop, replicate}
 use Rattle.image.specs.Image.{count_of, size_of}
 use Rattle.image.specs.declared.Limits.{Limits}
 use Rattle.rules.specs.Refusal.{RoutineRefusal}
 use Rattle.rules.specs.Outcome.{Outcome}
-use Rattle.rules.specs.declared.Verdict.{Verdict}
-use Rattle.rules.specs.declared.Verdict.TheVariants.{Accepted, Refused}
+use Rattle.rules.specs.Verdict.{Verdict}
+use Rattle.rules.specs.Verdict.{Accepted, Refused}
 use Rattle.acceptance.specs.Passed.{need_in, RoutinesPassed}
 use Rattle.decode_pass.specs.Pass.{NoStarts}
 use Rattle.checker.specs.declared.sweep.Sweep.{Sweep}
@@ -46,8 +46,8 @@ pub data VerdictOf (limits : Limits) (count : ℕ) (s : Sweep) : Verdict → Typ
 
 -- after refusals 6 to 16 all code marks are 0
 abbrev pub code_marks : Verdict → List ℕ → List ℕ
-code_marks (Accepted need count) marks = marks
-code_marks (Refused number offset) marks = replicate (length marks) 0
+code_marks (Ok accepted) marks = marks
+code_marks (Err refused) marks = replicate (length marks) 0
 
 -- The outcome for a valid image, whose code marks end so: cells past the code never change.
 pub record CodeOutcome (image : List ℕ) (limits : Limits) (v : Verdict) (marks : List ℕ) : Type 0 where

@@ -10,14 +10,14 @@ ghost use Rattle.image.specs.Lengths.{Begins};
 ghost use Rattle.image.specs.Validation.{validated};
 ghost use Rattle.image.specs.Validated.{Valid};
 ghost use Rattle.rules.specs.Outcome.{Outcome, VerdictNumbered};
-ghost use Rattle.rules.specs.declared.Verdict.TheVariants.{Accepted};
+ghost use Rattle.rules.specs.Verdict.{Accepted};
 ghost use Rattle.acceptance.specs.Check.{checked};
 ghost use Rattle.checker.specs.Internal.{Small, VerdictOf, code_marks, CodeOutcome};
 
 use crate::marks::clear;
 use crate::sweep::{Sweep, sweep_routines};
 use image::{Layout, Limits, measure};
-pub use rules::Verdict;
+pub use rules::{Acceptance, Refusal, Verdict};
 pub use sweep::routine_at;
 
 // What the sweep's last state says; 16 comes last.
@@ -26,15 +26,24 @@ fn verdict_of(limits: Limits, layout: Layout, s: Sweep) -> Verdict
     ensures { VerdictOf limits layout.count s result }
 {
     if s.refusal != 0 {
-        return Verdict::Refused(s.refusal, s.at as u16);
+        return Err(Refusal {
+            number: s.refusal,
+            offset: s.at as u16,
+        });
     }
     let stack = limits.stack;
     let main = layout.count - 1;
     let need = s.needs[main] + 2;
     if stack.high as usize + 1 < stack.low as usize + need as usize {
-        return Verdict::Refused(16, 0);
+        return Err(Refusal {
+            number: 16,
+            offset: 0,
+        });
     }
-    Verdict::Accepted(need, s.count as u16)
+    Ok(Acceptance {
+        need,
+        count: s.count as u16,
+    })
 }
 
 // Where the verdict refuses, all code marks are 0.
@@ -42,8 +51,8 @@ fn clear_refused(v: Verdict, marks: &mut [u16])
     ensures { marks.new ≡ code_marks v marks.old }
 {
     match v {
-        Verdict::Accepted(_, _) => (),
-        Verdict::Refused(_, _) => clear(marks),
+        Ok(_) => (),
+        Err(_) => clear(marks),
     }
 }
 
@@ -78,7 +87,10 @@ fn check_valid(
 {
     let size = layout.size;
     if marks.len() < size {
-        return Verdict::Refused(5, 0);
+        return Err(Refusal {
+            number: 5,
+            offset: 0,
+        });
     }
     check_code(image, limits, layout, begins, &mut marks[..size])
 }
@@ -104,7 +116,7 @@ pub fn check_begins(image: &[u8], limits: Limits, marks: &mut [u16]) -> CheckedI
         }
         Err(error) => {
             let begins = [0u16; 32];
-            let verdict = Verdict::Refused(error.number(), 0);
+            let verdict = Err(Refusal { number: error.number(), offset: 0 });
             CheckedImage { verdict, begins }
         }
     }

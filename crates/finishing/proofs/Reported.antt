@@ -1,5 +1,6 @@
 -- What the answer of a turn says of a run: within, that it finishes within the turn that is reported; over, that main's turn is above 4,294,967,295, and
 -- that runs whose budgets add up to it finish.
+use Rattle.std.specs.Prelude.{Ok, Err}
 use Prim.Native.Nat.{ℕ, ◌<◌, ◌≤◌}
 use mathlib.Core.Path.{◌≡◌, refl}
 use mathlib.Core.Bool.{Bool, true, false, cond}
@@ -11,7 +12,8 @@ use Rattle.numbers.specs.Folds.{total}
 use Rattle.numbers.specs.Lists.{Bytes}
 use Rattle.image.specs.declared.Limits.{Limits}
 use Rattle.image.specs.Image.{main_of}
-use Rattle.rules.specs.declared.Verdict.{Verdict}
+use Rattle.rules.specs.Verdict as Verdicts
+use Rattle.rules.specs.Verdict.{Verdict}
 use Rattle.acceptance.specs.Check.{checked}
 use Rattle.machine.specs.Run.{ran}
 use Rattle.gate.specs.Start.{started}
@@ -33,12 +35,12 @@ over_told false false turn e = let z : ◌≡◌ {A = ℕ} 0 1 = cc in absurd (o
 
 -- an image that is not refused is answered as an accepted one
 accepted_within : (image : List ℕ) (v : Verdict) (t : ℕ) → by_verdict image v ≡ Within t → answer_of image ≡ Within t
-accepted_within image (Verdict.Refused number offset) t e = let z : ◌≡◌ {A = ℕ} 0 1 = cc in absurd (omega arith)
-accepted_within image (Verdict.Accepted need count) t e = e
+accepted_within image (Err refused) t e = let z : ◌≡◌ {A = ℕ} 0 1 = cc in absurd (omega arith)
+accepted_within image (Ok accepted) t e = e
 
 accepted_over : (image : List ℕ) (v : Verdict) → by_verdict image v ≡ Over → answer_of image ≡ Over
-accepted_over image (Verdict.Refused number offset) e = let z : ◌≡◌ {A = ℕ} 0 1 = cc in absurd (omega arith)
-accepted_over image (Verdict.Accepted need count) e = e
+accepted_over image (Err refused) e = let z : ◌≡◌ {A = ℕ} 0 1 = cc in absurd (omega arith)
+accepted_over image (Ok accepted) e = e
 
 module _ (image : List ℕ) (limits : Limits) (marks : List ℕ) where
   pub within_is : (t : ℕ) → (turned image limits marks).0 ≡ Within t → (some_jumps_back image ≡ false) × (turn_of image (main_of image) ≡ t)
@@ -56,7 +58,7 @@ module _ (image : List ℕ) (limits : Limits) (marks : List ℕ) where
 
 -- The image is started under the limits that its turn was asked for, with any marks, memory, A, X, Y and CC.
 module _ (image : List ℕ) (bytes : Bytes image) (limits : Limits) (asked marks memory : List ℕ) (a x y cc' need count : ℕ)
-    (accepted : (started image limits marks memory a x y cc').started.verdict ≡ Verdict.Accepted need count) where
+    (accepted : (started image limits marks memory a x y cc').started.verdict ≡ Verdicts.Accepted need count) where
   pub within_finishes : (t : ℕ) → (turned image limits asked).0 ≡ Within t → (budget : ℕ) → t ≤ budget →
       let s = started image limits marks memory a x y cc' in
       FinishedWithin t (ran budget image limits s.started.registers s.memory).0

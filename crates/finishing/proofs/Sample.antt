@@ -24,7 +24,7 @@ use Rattle.code.specs.Instructions as Instructions
 use Rattle.control_flow.specs.Routine as Routine
 use Rattle.control_flow.specs.Measuring as Measuring
 use Rattle.rules.specs.Paths as Paths
-use Rattle.rules.specs.declared.Verdict.TheVariants.{Accepted}
+use Rattle.rules.specs.Verdict.{Accepted}
 use Rattle.acceptance.specs.Cells as Cells
 use Rattle.acceptance.specs.Starts as Starts
 use Rattle.acceptance.specs.Exploration as Exploration

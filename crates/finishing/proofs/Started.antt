@@ -7,7 +7,7 @@ use Rattle.numbers.specs.Folds.{total}
 use Rattle.numbers.specs.Lists.{Bytes}
 use Rattle.image.specs.declared.Limits.{Limits}
 use Rattle.image.specs.Image.{main_of}
-use Rattle.rules.specs.declared.Verdict.TheVariants.{Accepted}
+use Rattle.rules.specs.Verdict.{Accepted}
 use Rattle.acceptance.proofs.Accepting.{accepted_exactly}
 use Rattle.execution.specs.declared.Registers.{Registers}
 use Rattle.machine.specs.Run.{ran}

@@ -8,7 +8,7 @@ use lib.ListN.{length}
 use Rattle.numbers.specs.Lists.{Bytes}
 use Rattle.image.specs.declared.Limits.{Limits}
 use Rattle.image.specs.Image.{count_of}
-use Rattle.rules.specs.declared.Verdict.TheVariants.{Accepted}
+use Rattle.rules.specs.Verdict.{Accepted}
 use Rattle.code.specs.Code.{Start}
 use Rattle.rules.specs.Rules.{reported_need, Rules}
 use Rattle.rules.proofs.Mapping.{routine_map, greatest_map}

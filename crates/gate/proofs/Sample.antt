@@ -32,7 +32,7 @@ use Rattle.acceptance.specs.Starts as Starts
 use Rattle.acceptance.specs.Exploration as Exploration
 use Rattle.acceptance.specs.Check as Check
 use Rattle.rules.specs.Paths as Paths
-use Rattle.rules.specs.declared.Verdict.TheVariants.{Accepted}
+use Rattle.rules.specs.Verdict.{Accepted}
 use Rattle.gate.specs.Start.{started}
 use Rattle.gate.specs.History.{Request, point_started, history}
 use Rattle.gate.specs.Guarantee.{All, Allowed, Holds}

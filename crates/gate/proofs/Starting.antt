@@ -1,4 +1,5 @@
 -- An accepted start: the memory had its size, the check accepted, and what it leaves is a good point.
+use Rattle.std.specs.Prelude.{Ok, Err}
 use Prim.Native.Nat.{ℕ, suc, ◌+◌, ◌-◌, ◌≤◌, ◌<◌}
 use mathlib.Core.Path.{◌≡◌, refl, sym, ap, ◌∙◌}
 use mathlib.Core.Bool.{Bool, true, false, cond}
@@ -17,8 +18,8 @@ use Rattle.image.specs.Rules.{ImageRules}
 use Rattle.code.specs.Code.{begins}
 use Rattle.acceptance.specs.Check.{checked}
 use Rattle.rules.specs.Outcome.{VerdictNumbered}
-use Rattle.rules.specs.declared.Verdict.{Verdict}
-use Rattle.rules.specs.declared.Verdict.TheVariants.{Accepted, Refused}
+use Rattle.rules.specs.Verdict.{Verdict}
+use Rattle.rules.specs.Verdict.{Accepted, Refused}
 use Rattle.storage.specs.Storing.{bytes_from, memory_after}
 use Rattle.machine.proofs.Stores.{stored_other, together, word_stored}
 use Rattle.acceptance.proofs.Accepting.{accepted_exactly}
@@ -44,8 +45,8 @@ module _ (image : List ℕ) (limits : Limits) (marks memory : List ℕ) (a x y c
 
   by_verdict_lem : (t : Bool) → eqb (length memory) 32768 ≡ t → (v : Verdict) → (checked image limits marks).0 ≡ v →
       (answer t v).started.verdict ≡ Accepted need count → AcceptedStart (answer t v)
-  by_verdict_lem true t (Accepted n c) v e = record { size = eqb-true _ _ t; accepted = v ∙ e; registers = refl; cleared_memory = refl }
-  by_verdict_lem true t (Refused n o) v e = let z : ◌≡◌ {A = ℕ} 0 1 = cc in absurd (omega arith)
+  by_verdict_lem true t (Ok a) v e = record { size = eqb-true _ _ t; accepted = v ∙ e; registers = refl; cleared_memory = refl }
+  by_verdict_lem true t (Err r) v e = let z : ◌≡◌ {A = ℕ} 0 1 = cc in absurd (omega arith)
   by_verdict_lem false t v w e = let z : ◌≡◌ {A = ℕ} 0 1 = cc in absurd (omega arith)
 
   pub accepted_start : (started image limits marks memory a x y cc').started.verdict ≡ Accepted need count →

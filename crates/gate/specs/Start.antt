@@ -1,11 +1,11 @@
 -- Starting: 17, then the whole check; accepted, 00 in the top two stack bytes, SP two below stack high and PC at main.
-use Rattle.std.specs.Prelude.{ℕ, ◌+◌, ◌-◌, cond, List, [], ◌∷◌, eqb, length}
+use Rattle.std.specs.Prelude.{Ok, Err, ℕ, ◌+◌, ◌-◌, cond, List, [], ◌∷◌, eqb, length}
 use Rattle.std.proofs.lemmas.List.Edits.{sets}
 use Rattle.image.specs.declared.Limits.{Limits}
 use Rattle.image.specs.Image.{base_of, start_of, main_of}
 use Rattle.acceptance.specs.Check.{checked}
-use Rattle.rules.specs.declared.Verdict.{Verdict}
-use Rattle.rules.specs.declared.Verdict.TheVariants.{Accepted, Refused}
+use Rattle.rules.specs.Verdict.{Verdict}
+use Rattle.rules.specs.Verdict.{Accepted, Refused}
 use Rattle.execution.specs.declared.Registers.{Registers}
 use Rattle.gate.specs.declared.Started.{Started}
 
@@ -28,11 +28,11 @@ pub record Result : Type 0 where
   pub memory : List ℕ
 
 abbrev pub by_verdict : Verdict → List ℕ → Limits → List ℕ → List ℕ → ℕ → ℕ → ℕ → ℕ → Result
-by_verdict (Refused number offset) image limits marks memory a x y cc =
-    record { started = record { verdict = Refused number offset; registers = zeros }; marks = marks; memory = memory }
-by_verdict (Accepted need count) image limits marks memory a x y cc =
+by_verdict (Err refused) image limits marks memory a x y cc =
+    record { started = record { verdict = Err refused; registers = zeros }; marks = marks; memory = memory }
+by_verdict (Ok accepted) image limits marks memory a x y cc =
     record {
-      started = record { verdict = Accepted need count; registers = begun image limits a x y cc };
+      started = record { verdict = Ok accepted; registers = begun image limits a x y cc };
       marks = marks;
       memory = cleared limits memory;
     }

@@ -9,7 +9,7 @@ ghost use Rattle.rules.specs.Outcome.{VerdictNumbered};
 ghost use Rattle.gate.specs.Start.{started, zeros, begun, cleared};
 
 use checker::check_begins;
-pub use checker::{Verdict, check};
+pub use checker::{Acceptance, Refusal, Verdict, check};
 pub use image::{Area, Limits};
 use image::{base_of, begin_at, count_of};
 pub use machine::{
@@ -95,14 +95,17 @@ pub fn start(
     ensures verdict_numbered { VerdictNumbered 17 result.verdict }
 {
     if memory.len() != 32768 {
-        return refused(Verdict::Refused(17, 0));
+        return refused(Err(Refusal {
+            number: 17,
+            offset: 0,
+        }));
     }
     let checked = check_begins(image, limits, marks);
     let verdict = checked.verdict;
     let begins = checked.begins;
     match verdict {
-        Verdict::Refused(_, _) => refused(verdict),
-        Verdict::Accepted(_, _) => {
+        Err(_) => refused(verdict),
+        Ok(_) => {
             let registers = begin(image, &begins, limits, memory, a, x, y, cc);
             Started { verdict, registers }
         }

@@ -7,7 +7,7 @@ use lib.ListN.{get_or}
 use Rattle.image.specs.declared.Limits.{Limits}
 use Rattle.rules.specs.Outcome.{values_of}
 use Rattle.acceptance.specs.Check.{checked}
-use Rattle.rules.specs.declared.Verdict.{Verdict}
+use Rattle.rules.specs.Verdict.{Verdict}
 use Rattle.machine.specs.Step.{stepped, step_number}
 use Rattle.machine.specs.Run.{ran, run_number}
 use Rattle.machine.specs.Cycles.{step_cycles, run_cycles}

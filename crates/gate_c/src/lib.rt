@@ -54,8 +54,8 @@ fn offset_need_count(verdict: Verdict) -> [u16; 3]
     ensures { result ≡ report_cells verdict }
 {
     match verdict {
-        Verdict::Accepted(need, count) => [0, need, count],
-        Verdict::Refused(_, offset) => [offset, 0, 0],
+        Ok(accepted) => [0, accepted.need, accepted.count],
+        Err(refused) => [refused.offset, 0, 0],
     }
 }
 

@@ -32,8 +32,14 @@ struct Progress {
 
 fn print_verdict(out: &mut impl Write, verdict: Verdict) -> io::Result<()> {
     match verdict {
-        Verdict::Accepted(need, count) => write!(out, "accepted {need} {count}"),
-        Verdict::Refused(number, offset) => write!(out, "refused {number} {offset}"),
+        Ok(accepted) => {
+            let (need, count) = (accepted.need, accepted.count);
+            write!(out, "accepted {need} {count}")
+        }
+        Err(refusal) => {
+            let (number, offset) = (refusal.number, refusal.offset);
+            write!(out, "refused {number} {offset}")
+        }
     }
 }
 
@@ -195,8 +201,9 @@ fn start_case(
     print_verdict(out, started.verdict)?;
     write!(out, "{}; start", MarksText(marks))?;
     match started.verdict {
-        Verdict::Refused(_, _) => print_state(out, started.registers, memory, limits, 0),
-        Verdict::Accepted(need, _) => {
+        Err(_) => print_state(out, started.registers, memory, limits, 0),
+        Ok(accepted) => {
+            let need = accepted.need;
             print_state(out, started.registers, memory, limits, need)?;
             let _again = start(case, subject, marks, other);
             print_runs(out, subject, need, started.registers, memory, other)

@@ -18,7 +18,7 @@ use Rattle.image.specs.declared.Limits.{Limits}
 use Rattle.image.specs.Validated as Validated
 use Rattle.image.proofs.Measuring.{lengths_count, code_length}
 use Rattle.image.proofs.RefusalNumbers.{layout_numbered}
-use Rattle.rules.specs.declared.Verdict.TheVariants.{Refused}
+use Rattle.rules.specs.Verdict.{Refused}
 use Rattle.listing.specs.Listing.{verdict_line, listing, image_in, checked_input}
 use Rattle.listing.proofs.Placing.{refused_listing, checked_refused, input_whole}
 

@@ -22,8 +22,8 @@ use Rattle.image.specs.Validation.{validated}
 use Rattle.image.specs.declared.Limits.{Limits}
 use Rattle.image.specs.Validated as Validated
 use Rattle.acceptance.specs.Check.{checked}
-use Rattle.rules.specs.declared.Verdict.{Verdict}
-use Rattle.rules.specs.declared.Verdict.TheVariants.{Accepted, Refused}
+use Rattle.rules.specs.Verdict.{Verdict}
+use Rattle.rules.specs.Verdict.{Accepted, Refused}
 use Rattle.listing.specs.Listing.{verdict_line, start_line, line_at, listing, longest, listed, image_in, checked_input}
 use Rattle.listing.specs.Internal.{Wrote}
 

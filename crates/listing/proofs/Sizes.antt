@@ -1,4 +1,5 @@
 -- How long lines are, and the longest listing.
+use Rattle.std.specs.Prelude.{Ok, Err}
 use Prim.Native.Nat.{ℕ, zero, suc, ◌+◌, ◌-◌, ◌*◌, ◌/◌, ◌≤◌}
 use mathlib.Core.Path.{◌≡◌, refl}
 use mathlib.Core.Bool.{Bool, true, false, cond}
@@ -20,8 +21,8 @@ use Rattle.image.specs.Validated.{Validated}
 use Rattle.image.specs.Validated.{Refused, Valid}
 use Rattle.image.proofs.Validity.{valid_rules}
 use Rattle.acceptance.specs.Check.{checked, validated_checked}
-use Rattle.rules.specs.declared.Verdict.{Verdict}
-use Rattle.rules.specs.declared.Verdict.TheVariants as Verdict
+use Rattle.rules.specs.Verdict.{Verdict}
+use Rattle.rules.specs.Verdict as Verdict
 use Rattle.listing.specs.Decimal.{leading, last_digit, decimal}
 use Rattle.listing.specs.Listing.{verdict_line, text_at, start_line, line_at, start_lines, listing, longest, image_in, checked_input}
 use Rattle.listing.specs.Internal.{Wrote}
@@ -40,8 +41,8 @@ decimal_size n =
     simp length-append (omega (arith, leading_size (n / 10000), leading_size (n / 1000), leading_size (n / 100), leading_size (n / 10)))
 
 verdict_line_size : (v : Verdict) → length (verdict_line v) ≤ 21
-verdict_line_size (Verdict.Accepted need count) = simp length-append (omega (arith, decimal_size need, decimal_size count))
-verdict_line_size (Verdict.Refused number offset) = simp length-append (omega (arith, decimal_size number, decimal_size offset))
+verdict_line_size (Ok a) = simp length-append (omega (arith, decimal_size a.need, decimal_size a.count))
+verdict_line_size (Err r) = simp length-append (omega (arith, decimal_size r.number, decimal_size r.offset))
 
 -- after line one there is room for the lines of all starts
 pub starts_room : (at size : ℕ) (v : Verdict) (before after : List ℕ) → Wrote 0 before (verdict_line v) at after → longest ≤ length before → size ≤ 4096 →
@@ -71,8 +72,8 @@ lines_size f h zero i = omega arith
 lines_size f h (suc n) i = rw length-append (omega (arith, h i, lines_size f h n (suc i)))
 
 start_lines_size : (image marks : List ℕ) (v : Verdict) → size_of image ≤ 4096 → length (start_lines image marks v) ≤ 35 * 4096
-start_lines_size image marks (Verdict.Accepted need count) h = omega (arith, lines_size (line_at image marks) (line_size image marks) (size_of image) 0)
-start_lines_size image marks (Verdict.Refused number offset) h = omega arith
+start_lines_size image marks (Ok accepted) h = omega (arith, lines_size (line_at image marks) (line_size image marks) (size_of image) 0)
+start_lines_size image marks (Err refused) h = omega arith
 
 -- of an image that has at most 4,096 code bytes
 code_listing_size : (image : List ℕ) (outcome : Verdict × List ℕ) → size_of image ≤ 4096 → length (listing image outcome) ≤ longest

@@ -10,7 +10,7 @@ use Rattle.stm8.specs.declared.Instruction.{Instruction}
 use Rattle.image.specs.Image.{code_of, size_of}
 use Rattle.image.specs.declared.Limits.{Limits}
 use Rattle.acceptance.specs.Check.{checked}
-use Rattle.rules.specs.declared.Verdict.TheVariants.{Accepted}
+use Rattle.rules.specs.Verdict.{Accepted}
 use Rattle.acceptance.proofs.Accepting.{accept_sound}
 use Rattle.image.proofs.Measuring.{end_inside}
 use Rattle.code.specs.Code.{instruction_in}

@@ -11,8 +11,8 @@ use Rattle.disassembly.specs.declared.Written.TheVariants.{Bytes, TooShort}
 use Rattle.image.specs.Image.{base_of, size_of, limits_of}
 use Rattle.code.specs.Code.{instruction_in}
 use Rattle.acceptance.specs.Check.{checked}
-use Rattle.rules.specs.declared.Verdict.{Verdict}
-use Rattle.rules.specs.declared.Verdict.TheVariants.{Accepted, Refused}
+use Rattle.rules.specs.Verdict.{Verdict}
+use Rattle.rules.specs.Verdict.{Accepted, Refused}
 use Rattle.listing.specs.Decimal.{decimal}
 
 abbrev pub line_feed : List ℕ
@@ -20,8 +20,8 @@ line_feed = 10 ∷ []
 
 -- Line one: verdict, need, count. A refusal prints `refused`, number and offset.
 abbrev pub verdict_line : Verdict → List ℕ
-verdict_line (Accepted need count) = ascii "accepted " ++ decimal need ++ ascii " " ++ decimal count ++ line_feed
-verdict_line (Refused number offset) = ascii "refused " ++ decimal number ++ ascii " " ++ decimal offset ++ line_feed
+verdict_line (Ok accepted) = ascii "accepted " ++ decimal accepted.need ++ ascii " " ++ decimal accepted.count ++ line_feed
+verdict_line (Err refused) = ascii "refused " ++ decimal refused.number ++ ascii " " ++ decimal refused.offset ++ line_feed
 
 -- the text of what decodes at an address; at a start of an accepted image that is an instruction, which is a theorem
 abbrev pub text_at : ℕ → Decoded → List ℕ
@@ -40,8 +40,8 @@ line_at image marks offset =
 
 -- Then, for each start, rising.
 abbrev pub start_lines : List ℕ → List ℕ → Verdict → List ℕ
-start_lines image marks (Accepted need count) = flat_map (line_at image marks) (counting (size_of image) 0)
-start_lines image marks (Refused number offset) = []
+start_lines image marks (Ok accepted) = flat_map (line_at image marks) (counting (size_of image) 0)
+start_lines image marks (Err refused) = []
 
 -- the lines of a verdict and of the marks that the check left
 unfoldable pub listing : List ℕ → Verdict × List ℕ → List ℕ

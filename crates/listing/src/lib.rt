@@ -12,7 +12,7 @@ use checker::check;
 use disassembly::Written;
 use image::{Limits, limits_of};
 use lines::{push_starts, write_verdict};
-use rules::Verdict;
+use rules::Refusal;
 
 // No listing is longer: 21 bytes for line one, and at most 35 for each of at most 4,096 code bytes.
 pub const LONGEST: usize = 143381;
@@ -28,8 +28,8 @@ pub fn list(image: &[u8], limits: Limits, marks: &mut [u16], buffer: &mut [u8]) 
     let v = check(image, limits, marks);
     let at = write_verdict(buffer, v);
     match v {
-        Verdict::Accepted(_, _) => Written::Bytes(push_starts(buffer, at, image, &marks[..])),
-        Verdict::Refused(_, _) => Written::Bytes(at),
+        Ok(_) => Written::Bytes(push_starts(buffer, at, image, &marks[..])),
+        Err(_) => Written::Bytes(at),
     }
 }
 
@@ -42,7 +42,13 @@ pub fn list_input(input: &[u8], marks: &mut [u16], buffer: &mut [u8]) -> Written
         return Written::TooShort;
     }
     if input.len() < 12 {
-        return Written::Bytes(write_verdict(buffer, Verdict::Refused(1, 0)));
+        return Written::Bytes(write_verdict(
+            buffer,
+            Err(Refusal {
+                number: 1,
+                offset: 0,
+            }),
+        ));
     }
     list(&input[12..], limits_of(input), marks, buffer)
 }

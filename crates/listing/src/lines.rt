@@ -35,13 +35,8 @@ pub(crate) fn write_verdict(buffer: &mut [u8], v: Verdict) -> usize
     ensures { Wrote 0 buffer.old (verdict_line v) result buffer.new }
 {
     match v {
-        Verdict::Accepted(need, count) => write_figures(buffer, b"accepted ", need, count),
-        Verdict::Refused(number, offset) => write_figures(
-            buffer,
-            b"refused ",
-            number as u16,
-            offset,
-        ),
+        Ok(accepted) => write_figures(buffer, b"accepted ", accepted.need, accepted.count),
+        Err(refused) => write_figures(buffer, b"refused ", refused.number as u16, refused.offset),
     }
 }
 

@@ -6,7 +6,8 @@ use mathlib.Core.List.{List}
 use lib.ListN.{length}
 use Rattle.numbers.specs.Lists.{Bytes}
 use Rattle.image.specs.declared.Limits.{Limits}
-use Rattle.rules.specs.declared.Verdict.{Verdict}
+use Rattle.rules.specs.Verdict as Verdicts
+use Rattle.rules.specs.Verdict.{Verdict}
 use Rattle.acceptance.specs.Check.{checked}
 use Rattle.acceptance.specs.Passed.{depth_in}
 use Rattle.machine.specs.Run.{ran}
@@ -29,7 +30,7 @@ use Rattle.pausing.specs.Pausing.{RunsOn, Resumable, FromRecord}
 use Rattle.pausing.proofs.Resuming.{good_pc, saving_passes}
 
 module _ (image : List ℕ) (bytes : Bytes image) (limits : Limits) (marks : List ℕ) (need count : ℕ)
-    (accept : (checked image limits marks).0 ≡ Verdict.Accepted need count) where
+    (accept : (checked image limits marks).0 ≡ Verdicts.Accepted need count) where
   abbrev left : List ℕ
   left = (checked image limits marks).1
 
@@ -79,7 +80,7 @@ module _ (image : List ℕ) (bytes : Bytes image) (limits : Limits) (marks : Lis
 
 -- Every state that a run from the start reaches, inside runs too, is good: saved with any total it can have, it can be resumed from.
 pub reached_resumable : (image : List ℕ) → Bytes image → (limits : Limits) (marks memory : List ℕ) (a x y cc need count : ℕ) →
-    (started image limits marks memory a x y cc).started.verdict ≡ Verdict.Accepted need count →
+    (started image limits marks memory a x y cc).started.verdict ≡ Verdicts.Accepted need count →
     (calls : List Request) → All (Allowed (record { image = image; limits = limits })) calls →
     All (λ (m : Moment). (steps : ℕ) → steps ≤ ceiling →
     Resumable image limits (checked image limits marks).1 m.point.state.registers steps m.point.state.memory)

@@ -8,7 +8,7 @@ use Rattle.numbers.specs.Words.{word_at}
 use Rattle.numbers.specs.Lists.{Bytes}
 use Rattle.image.specs.declared.Limits.{Limits}
 use Rattle.image.specs.Image.{base_of, start_of}
-use Rattle.rules.specs.declared.Verdict.TheVariants.{Accepted}
+use Rattle.rules.specs.Verdict.{Accepted}
 use Rattle.acceptance.specs.Check.{checked}
 use Rattle.acceptance.specs.Passed.{depth_in}
 use Rattle.execution.specs.declared.Registers.{Registers}

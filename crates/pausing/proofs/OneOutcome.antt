@@ -4,7 +4,8 @@ use mathlib.Core.Path.{◌≡◌, refl, sym, ap, ◌∙◌}
 use mathlib.Core.List.{List}
 use Rattle.image.specs.declared.Limits.{Limits}
 use Rattle.rules.specs.Outcome.{values_of}
-use Rattle.rules.specs.declared.Verdict.{Verdict}
+use Rattle.rules.specs.Verdict as Verdicts
+use Rattle.rules.specs.Verdict.{Verdict}
 use Rattle.machine.specs.declared.RunAnswer.{RunAnswer}
 use Rattle.saved_state.specs.Sls.{state_in}
 use Rattle.resuming.specs.Resuming.{zeros_for, Ends, finished, spent, ran_on, ResumesAccepted, unreadable, not_good, resumed, Resumes, no_memory, refused, accepted}
@@ -34,7 +35,7 @@ module _ (image : List ℕ) (limits : Limits) (memory bytes : List ℕ) (budget 
   abbrev Same : Resumed → Resumed → List ℕ → List ℕ → List ℕ → List ℕ → Type 0
   Same r r' marks marks' after after' = (r ≡ r') × (marks ≡ marks') × (after ≡ after')
 
-  same_refusal : {n n' o o' : ℕ} {marks marks' : List ℕ} → ◌≡◌ {A = Verdict × List ℕ} (Verdict.Refused n o, marks) (Verdict.Refused n' o', marks') →
+  same_refusal : {n n' o o' : ℕ} {marks marks' : List ℕ} → ◌≡◌ {A = Verdict × List ℕ} (Verdicts.Refused n o, marks) (Verdicts.Refused n' o', marks') →
       Same (zeros_for n o) (zeros_for n' o') marks marks' memory memory
   same_refusal e =
       let number = ap (λ (x : Verdict × List ℕ). (values_of x.0).number) e in

@@ -13,7 +13,7 @@ use Rattle.numbers.proofs.Checking.{by_test}
 use Rattle.image.specs.declared.Limits.{Limits}
 use Rattle.image.specs.Image.{size_of}
 use Rattle.rules.specs.Rules.{Rules}
-use Rattle.rules.specs.declared.Verdict.TheVariants.{Accepted}
+use Rattle.rules.specs.Verdict.{Accepted}
 use Rattle.acceptance.proofs.Accepting.{accept_complete, accepted_exactly}
 use Rattle.machine.specs.Step.{step_refusal}
 use Rattle.machine.specs.Run.{ended, no_steps_left, ran}

@@ -7,7 +7,8 @@ use lib.ListN.{length}
 use Rattle.numbers.proofs.Checking.{under_pass}
 use Rattle.image.specs.declared.Limits.{Limits}
 use Rattle.image.proofs.Measuring.{end_inside}
-use Rattle.rules.specs.declared.Verdict.{Verdict}
+use Rattle.rules.specs.Verdict as Verdicts
+use Rattle.rules.specs.Verdict.{Verdict}
 use Rattle.acceptance.specs.Check.{checked}
 use Rattle.execution.specs.declared.Registers.{Registers}
 use Rattle.machine.specs.Run.{ran}
@@ -36,7 +37,7 @@ module _ {image : List ℕ} {limits : Limits} {memory bytes : List ℕ} {budget 
   accepted_runs passes good (not_good read bad) = absurd (bad good)
   accepted_runs passes good (resumed read again ends is) = record { ends = ends; is = is }
 
-  pub good_runs : {marks marks' after : List ℕ} {r : Resumed} {need count : ℕ} → length memory ≡ 32768 → (checked image limits marks).0 ≡ Verdict.Accepted need count →
+  pub good_runs : {marks marks' after : List ℕ} {r : Resumed} {need count : ℕ} → length memory ≡ 32768 → (checked image limits marks).0 ≡ Verdicts.Accepted need count →
       saved_check bytes ≡ 0 → Good image limits (checked image limits marks).1 (state_in bytes).registers memory →
       Resumes image limits marks memory bytes budget r marks' after → Came image limits memory (state_in bytes) budget r after
   good_runs size verdict passes good (no_memory other) = absurd (other size)

@@ -2,7 +2,7 @@
 use Rattle.std.specs.Prelude.{ℕ, ◌+◌, ◌≤◌, ◌≡◌, List, [], ◌∷◌, length}
 use Rattle.image.specs.declared.Limits.{Limits}
 use Rattle.image.specs.Image.{size_of}
-use Rattle.rules.specs.declared.Verdict.TheVariants.{Accepted}
+use Rattle.rules.specs.Verdict.{Accepted}
 use Rattle.acceptance.specs.Check.{checked}
 use Rattle.acceptance.specs.Passed.{depth_in}
 use Rattle.execution.specs.declared.Registers.{Registers}

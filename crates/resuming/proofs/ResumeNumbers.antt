@@ -7,7 +7,7 @@ use native.Mathlib.Decide.{ℕ_discrete}
 use native.Mathlib.Omega.{arith}
 use Rattle.image.specs.declared.Limits.{Limits}
 use Rattle.rules.specs.Outcome.{VerdictNumbered}
-use Rattle.rules.specs.declared.Verdict.TheVariants as Verdict
+use Rattle.rules.specs.Verdict as Verdict
 use Rattle.machine.specs.declared.RunAnswer.{RunAnswer}
 use Rattle.saved_state.proofs.Saving.{saved_34}
 use Rattle.resuming.specs.declared.ResumeAnswer.{ResumeAnswer}

@@ -9,7 +9,7 @@ use Rattle.image.specs.declared.Limits.{Limits}
 use Rattle.image.specs.Image.{base_of, count_of, start_of}
 use Rattle.image.specs.Lengths.{Begins}
 use Rattle.code.specs.Code.{instruction_at, Start}
-use Rattle.rules.specs.declared.Verdict.TheVariants.{Accepted}
+use Rattle.rules.specs.Verdict.{Accepted}
 use Rattle.acceptance.specs.Check.{checked}
 use Rattle.acceptance.specs.Passed.{depth_in}
 use Rattle.execution.specs.declared.Registers.{Registers}

@@ -1,7 +1,7 @@
 -- Resuming: 17, then the whole check, then 34, then 35; else the state runs on.
 use Rattle.std.specs.Prelude.{ℕ, ◌+◌, ◌-◌, min, ◌≡◌, List, length}
 use Rattle.image.specs.declared.Limits.{Limits}
-use Rattle.rules.specs.declared.Verdict.TheVariants as Verdict
+use Rattle.rules.specs.Verdict as Verdict
 use Rattle.acceptance.specs.Check.{checked}
 use Rattle.machine.specs.declared.RunAnswer.{RunAnswer}
 use Rattle.machine.specs.declared.RunAnswer.TheVariants as Run

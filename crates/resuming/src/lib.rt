@@ -11,7 +11,7 @@ ghost use Rattle.resuming.specs.Values.{resume_number, resume_offset, ResumeNumb
 ghost use Rattle.resuming.specs.Internal.{Accepting, Untrapped, ending_at};
 
 use checker::check_begins;
-use gate::{Limits, Registers, Verdict, run};
+use gate::{Limits, Registers, run};
 use good::is_good;
 use numbers::checks::{first, unless};
 use saved_state::{SavedState, saved_check, state_in};
@@ -152,10 +152,8 @@ pub fn resume(
     let verdict = checked.verdict;
     let begins = checked.begins;
     match verdict {
-        Verdict::Refused(number, offset) => refused(number, offset),
-        Verdict::Accepted(_, _) => {
-            resume_accepted(image, limits, &begins, marks, memory, bytes, budget)
-        }
+        Err(refusal) => refused(refusal.number, refusal.offset),
+        Ok(_) => { resume_accepted(image, limits, &begins, marks, memory, bytes, budget) }
     }
 }
 

@@ -18,8 +18,8 @@ use Rattle.image.proofs.RefusalNumbers.{validation_number_lem}
 use Rattle.code.proofs.Starts.{start_high}
 use Rattle.rules.specs.Acceptance.{RefusedMarks, PastCode, RefusedAs}
 use Rattle.rules.specs.Outcome.{Outcome, invalid, few, refused, accepted, VerdictNumbered}
-use Rattle.rules.specs.declared.Verdict.{Verdict}
-use Rattle.rules.specs.declared.Verdict.TheVariants.{Refused}
+use Rattle.rules.specs.Verdict.{Verdict}
+use Rattle.rules.specs.Verdict.{Refused}
 use Rattle.rules.proofs.RefusalNumbers.{refusal_number, refusal_inside}
 
 validation_refused : (image : List ℕ) (limits : Limits) {number : ℕ} → validated image limits ≡ Validated.Refused number → (1 ≤ number) × (number ≤ 4)

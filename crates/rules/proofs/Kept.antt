@@ -12,7 +12,7 @@ use Rattle.rules.specs.Paths.{falling, jumping, Reached, entered, followed}
 use Rattle.rules.specs.Rules.{reported_need, RoutineRulesBy, RoutineRules, Rules, StartCount}
 use Rattle.rules.specs.Acceptance.{AcceptedMarks, PastCode}
 use Rattle.rules.specs.Outcome.{Outcome, accepted}
-use Rattle.rules.specs.declared.Verdict.TheVariants.{Accepted}
+use Rattle.rules.specs.Verdict.{Accepted}
 use Rattle.rules.specs.Before.{ReachedFromBelow, fallen, jumped, RulesBefore}
 use Rattle.rules.specs.Before as Before
 use Rattle.code.proofs.Starts.{found_inside}

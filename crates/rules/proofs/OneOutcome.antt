@@ -16,8 +16,8 @@ use Rattle.rules.specs.Rules.{reported_need, RoutineRules, NeedRules, Rules}
 use Rattle.rules.specs.Refusal.{Refusal, in_routine, no_room}
 use Rattle.rules.specs.Acceptance.{Acceptable}
 use Rattle.rules.specs.Outcome.{Outcome, invalid, few, refused, accepted}
-use Rattle.rules.specs.declared.Verdict.{Verdict}
-use Rattle.rules.specs.declared.Verdict.TheVariants.{Accepted, Refused}
+use Rattle.rules.specs.Verdict.{Verdict}
+use Rattle.rules.specs.Verdict.{Accepted, Refused}
 use Rattle.rules.proofs.Unique.{one_depth, one_need, one_count}
 use Rattle.rules.proofs.OneRefusal.{routines_pass, one_refusal}
 use Rattle.rules.proofs.OneMarks.{one_marks}

@@ -1,5 +1,5 @@
 -- What a check gives: its verdict, and the marks as it leaves them. That there is just one outcome for each image, limits and marks is a theorem.
-use Rattle.std.specs.Prelude.{ℕ, ◌<◌, ◌≤◌, ◌≡◌, ◌⊎◌, List, ◌++◌, length, drop, replicate}
+use Rattle.std.specs.Prelude.{ℕ, Ok, Err, ◌<◌, ◌≤◌, ◌≡◌, ◌⊎◌, List, ◌++◌, length, drop, replicate}
 use Rattle.image.specs.declared.Limits.{Limits}
 use Rattle.image.specs.declared.Layout.{Layout}
 use Rattle.image.specs.Validated as Validated
@@ -7,8 +7,8 @@ use Rattle.image.specs.Image.{size_of}
 use Rattle.image.specs.Validation.{validated}
 use Rattle.rules.specs.Refusal.{Refusal}
 use Rattle.rules.specs.Acceptance.{Acceptable, AcceptedMarks, PastCode}
-use Rattle.rules.specs.declared.Verdict.{Verdict}
-use Rattle.rules.specs.declared.Verdict.TheVariants.{Accepted, Refused}
+use Rattle.rules.specs.Verdict.{Verdict}
+use Rattle.rules.specs.Verdict.{Accepted, Refused}
 
 -- 1 to 4, then 5; then the refusal of the code, 6 to 16, or acceptance. After 1 to 5 no mark changes; after 6 to 16 all code marks are 0.
 pub data Outcome (image : List ℕ) (limits : Limits) (before : List ℕ) : Verdict → List ℕ → Type 0 where
@@ -29,8 +29,8 @@ pub record VerdictValues : Type 0 where
   pub count : ℕ
 
 abbrev pub values_of : Verdict → VerdictValues
-values_of (Accepted need count) = record { number = 0; offset = 0; need = need; count = count }
-values_of (Refused number offset) = record { number = number; offset = offset; need = 0; count = 0 }
+values_of (Ok a) = record { number = 0; offset = 0; need = a.need; count = a.count }
+values_of (Err r) = record { number = r.number; offset = r.offset; need = 0; count = 0 }
 
 -- What they tell of a verdict: it accepts exactly where the number is 0, and refuses with 1 to the most there is, 16 of a check and 17 of a start.
 -- The offset is 0 for all but 6 to 15.

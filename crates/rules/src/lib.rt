@@ -4,20 +4,28 @@
 ghost use Rattle.std.specs.Prelude.{◌≡◌};
 ghost use Rattle.rules.specs.Outcome.{values_of};
 
+// What an accepted image needs: the stack bytes, and how many starts it has.
 #[derive(Clone, Copy)]
-pub enum Verdict {
-    // The need and the number of starts.
-    Accepted(u16, u16),
-    // The refusal's number and offset.
-    Refused(u8, u16),
+pub struct Acceptance {
+    pub need: u16,
+    pub count: u16,
 }
+
+// Document 01's number of the rule that is broken, and the offset where.
+#[derive(Clone, Copy)]
+pub struct Refusal {
+    pub number: u8,
+    pub offset: u16,
+}
+
+pub type Verdict = Result<Acceptance, Refusal>;
 
 // Document 01's number of a verdict, 0 where it accepts.
 pub fn verdict_number(v: Verdict) -> u8
     ensures { result ≡ (values_of v).number }
 {
     match v {
-        Verdict::Accepted(_, _) => 0,
-        Verdict::Refused(number, _) => number,
+        Ok(_) => 0,
+        Err(refusal) => refusal.number,
     }
 }

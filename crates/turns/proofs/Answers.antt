@@ -14,7 +14,8 @@ use Rattle.image.specs.declared.Limits.{Limits}
 use Rattle.image.specs.Validated.{Valid}
 use Rattle.image.proofs.Validity.{rules_valid}
 use Rattle.rules.specs.Outcome.{VerdictNumbered}
-use Rattle.rules.specs.declared.Verdict.{Verdict}
+use Rattle.rules.specs.Verdict as Verdicts
+use Rattle.rules.specs.Verdict.{Verdict}
 use Rattle.acceptance.specs.Check.{checked}
 use Rattle.acceptance.proofs.Accepting.{accepted_exactly}
 use Rattle.turns.specs.Turn.{some_jumps_back, turn_of, over_or_within, answer_of, turned}
@@ -85,21 +86,21 @@ answer_numbered image =
 
 -- by the check's verdict
 module _ (image : List ℕ) (limits : Limits) (marks : List ℕ) {marks' : List ℕ} {v : Verdict} (check : checked image limits marks ≡ (v, marks')) where
-  pub turn_refused : {number offset : ℕ} → v ≡ Verdict.Refused number offset → VerdictNumbered 16 v →
+  pub turn_refused : {number offset : ℕ} → v ≡ Verdicts.Refused number offset → VerdictNumbered 16 v →
       (turned image limits marks ≡ (Refused number offset, marks')) × TurnNumbered (Refused number offset)
   unfolding turned
   turn_refused {number} {offset} is numbered =
-      let n : VerdictNumbered 16 (Verdict.Refused number offset) = rw is at numbered in
+      let n : VerdictNumbered 16 (Verdicts.Refused number offset) = rw is at numbered in
       let some : (number ≡ 0 → ⊥) = λ e. let z : ◌≡◌ {A = ℕ} 0 1 = (let a = n.accepted e in cc) in omega arith in
       (rw (check, is), refused_numbered number offset some n.most)
 
-  pub turn_accepted : {need count : ℕ} {answer : TurnAnswer} → v ≡ Verdict.Accepted need count → answer ≡ answer_of image →
+  pub turn_accepted : {need count : ℕ} {answer : TurnAnswer} → v ≡ Verdicts.Accepted need count → answer ≡ answer_of image →
       (turned image limits marks ≡ (answer, marks')) × TurnNumbered answer
   unfolding turned
   turn_accepted is answer-is = rw answer-is (rw (check, is), answer_numbered image)
 
   -- what is accepted has a layout that follows the rules
-  pub accepted_layout : {need count : ℕ} → v ≡ Verdict.Accepted need count →
+  pub accepted_layout : {need count : ℕ} → v ≡ Verdicts.Accepted need count →
       ImageRules image × (validated image limits ≡ Valid (layout_of image))
   accepted_layout {need} {count} is =
       let h = (accepted_exactly image limits marks need count).0 (ap (λ (r : Verdict × List ℕ). r.0) check ∙ is) in

@@ -1,5 +1,5 @@
 -- What W-210 works out for an accepted image: none, over, or main's turn.
-use Rattle.std.specs.Prelude.{ℕ, zero, suc, ◌+◌, Bool, true, false, cond, List, [], ◌∷◌, ◌++◌, map, leb, ltb, get_or}
+use Rattle.std.specs.Prelude.{Ok, Err, ℕ, zero, suc, ◌+◌, Bool, true, false, cond, List, [], ◌∷◌, ◌++◌, map, leb, ltb, get_or}
 use Rattle.std.proofs.Math.Option.{Option, none, some}
 use Rattle.numbers.specs.Computed.{counting}
 use Rattle.numbers.specs.Folds.{total}
@@ -8,7 +8,7 @@ use Rattle.image.specs.Image.{base_of, count_of, main_of}
 use Rattle.image.specs.declared.Limits.{Limits}
 use Rattle.code.specs.Instructions.{Located, instructions_of}
 use Rattle.rules.specs.Paths.{callee}
-use Rattle.rules.specs.declared.Verdict.{Verdict}
+use Rattle.rules.specs.Verdict.{Verdict}
 use Rattle.acceptance.specs.Check.{checked}
 use Rattle.turns.specs.declared.TurnAnswer.{TurnAnswer}
 use Rattle.turns.specs.declared.TurnAnswer.TheVariants.{Refused, NoTurn, Over, Within}
@@ -65,8 +65,8 @@ answer_of image = cond (some_jumps_back image) NoTurn (over_or_within (turn_of i
 
 -- It refuses as checking does, and leaves the marks as checking does.
 abbrev pub by_verdict : List ℕ → Verdict → TurnAnswer
-by_verdict image (Verdict.Refused number offset) = Refused number offset
-by_verdict image (Verdict.Accepted need count) = answer_of image
+by_verdict image (Err refused) = Refused refused.number refused.offset
+by_verdict image (Ok accepted) = answer_of image
 
 unfoldable pub turned : List ℕ → Limits → List ℕ → TurnAnswer × List ℕ
 turned image limits marks = let c = checked image limits marks in (by_verdict image c.0, c.1)

@@ -13,7 +13,7 @@ ghost use Rattle.turns.specs.Turn.{over_or_within, answer_of, turned};
 ghost use Rattle.turns.specs.Values.{values_of as values_in, TurnNumbered};
 
 use crate::summing::sum_main;
-use checker::{Verdict, check_begins};
+use checker::check_begins;
 use image::{Layout, Limits, base_of, code_at, count_of, version_of};
 
 // What is worked out for an image: refused as the check refuses it, with number and offset; no turn, where some jump goes to its own or a lower
@@ -82,8 +82,8 @@ pub fn turn(image: &[u8], limits: Limits, marks: &mut [u16]) -> TurnAnswer
     let verdict = checked.verdict;
     let begins = checked.begins;
     match verdict {
-        Verdict::Refused(number, offset) => TurnAnswer::Refused(number, offset),
-        Verdict::Accepted(_, _) => answer(image, limits, &begins),
+        Err(refusal) => TurnAnswer::Refused(refusal.number, refusal.offset),
+        Ok(_) => answer(image, limits, &begins),
     }
 }
 

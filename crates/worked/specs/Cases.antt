@@ -7,8 +7,8 @@ use Rattle.image.specs.Image.{size_of}
 use Rattle.image.specs.declared.Area.{Area}
 use Rattle.image.specs.declared.Limits.{Limits}
 use Rattle.acceptance.specs.Check.{checked}
-use Rattle.rules.specs.declared.Verdict.{Verdict}
-use Rattle.rules.specs.declared.Verdict.TheVariants.{Accepted, Refused}
+use Rattle.rules.specs.Verdict.{Verdict}
+use Rattle.rules.specs.Verdict.{Accepted, Refused}
 use Rattle.execution.specs.Performing.{Result, result}
 use Rattle.machine.specs.Step.{stepped}
 use Rattle.machine.specs.Cycles.{step_cycles}

@@ -1,6 +1,6 @@
 -- `checker::clear_refused` meets its contract.
 use Rattle.checker.proofs.clear_refused.Goals as goal
 
-pub returns-in-Refused : goal.returns-in-Refused
-returns-in-Refused c =
-    rw (c.in-Refused.is, c.clear.ensures)
+pub returns-in-Err : goal.returns-in-Err
+returns-in-Err c =
+    rw (c.in-Err.is, c.clear.ensures)

@@ -10,20 +10,20 @@ returns-then-memory-ne32768 c = record {
 
 pub begin-registers-requires : goal.begin-registers-requires
 begin-registers-requires c =
-    let ready = start_ready _ _ _ c.args.memory.now c.check_begins-checked.result.verdict _ _ _ c.if-memory-ne32768.false c.check_begins-checked.ensures.marks_value c.in-Accepted.is in record {
-      image_rules = (ready.0, c.check_begins-checked.ensures.by_index _ _ c.in-Accepted.is);
+    let ready = start_ready _ _ _ c.args.memory.now c.check_begins-checked.result.verdict _ _ _ c.if-memory-ne32768.false c.check_begins-checked.ensures.marks_value c.in-Ok.is in record {
+      image_rules = (ready.0, c.check_begins-checked.ensures.by_index _ _ c.in-Ok.is);
       le_high = ready.1;
     }
 
-pub returns-in-Refused : goal.returns-in-Refused
-returns-in-Refused c = record {
-  cc_value = rw c.refused-in-Refused.ensures
-      (start_refused _ _ _ _ _ _ _ _ c.if-memory-ne32768.false c.check_begins-checked.result.verdict _ c.check_begins-checked.ensures.marks_value _ _ c.in-Refused.is);
-  verdict_numbered = rw c.refused-in-Refused.ensures (numbered_check c.check_begins-checked.ensures.verdict_numbered);
+pub returns-in-Err : goal.returns-in-Err
+returns-in-Err c = record {
+  cc_value = rw c.refused-in-Err.ensures
+      (start_refused _ _ _ _ _ _ _ _ c.if-memory-ne32768.false c.check_begins-checked.result.verdict _ c.check_begins-checked.ensures.marks_value _ _ c.in-Err.is);
+  verdict_numbered = rw c.refused-in-Err.ensures (numbered_check c.check_begins-checked.ensures.verdict_numbered);
 }
 
-pub returns-in-Accepted : goal.returns-in-Accepted
-returns-in-Accepted c = record {
-  cc_value = rw (c.begin-registers.ensures.value, c.begin-registers.ensures.memory_after) (start_accepted _ _ _ _ _ _ _ _ c.if-memory-ne32768.false c.check_begins-checked.result.verdict _ c.check_begins-checked.ensures.marks_value _ _ c.in-Accepted.is);
+pub returns-in-Ok : goal.returns-in-Ok
+returns-in-Ok c = record {
+  cc_value = rw (c.begin-registers.ensures.value, c.begin-registers.ensures.memory_after) (start_accepted _ _ _ _ _ _ _ _ c.if-memory-ne32768.false c.check_begins-checked.result.verdict _ c.check_begins-checked.ensures.marks_value _ _ c.in-Ok.is);
   verdict_numbered = numbered_check c.check_begins-checked.ensures.verdict_numbered;
 }

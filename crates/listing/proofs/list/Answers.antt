@@ -5,7 +5,7 @@ use mathlib.Core.List.{List}
 use borrow.Author.Rules.{rules}
 use Rattle.acceptance.specs.Check.{checked}
 use Rattle.acceptance.proofs.Accepting.{accept_sound}
-use Rattle.rules.specs.declared.Verdict.{Verdict}
+use Rattle.rules.specs.Verdict.{Verdict}
 use Rattle.listing.proofs.Appending.{◌then◌}
 use Rattle.listing.proofs.Placing.{listed_short, listed_fits, accepted_listing, refused_listing}
 use Rattle.listing.proofs.Sizes.{starts_room, listing_size}
@@ -17,24 +17,24 @@ returns-then-buffer-lt-LONGEST c =
 
 pub push_starts-requires : goal.push_starts-requires
 push_starts-requires c =
-    let accepts = ap (λ (o : Verdict × List ℕ). o.0) c.check-v.ensures.marks_value ∙ c.in-Accepted.is in
+    let accepts = ap (λ (o : Verdict × List ℕ). o.0) c.check-v.ensures.marks_value ∙ c.in-Ok.is in
     let rules = (accept_sound c.args.image.now c.args.limits c.args.marks.now accepts).0.rules.layout in
     (rules, starts_room _ _ c.check-v.result _ _ c.write_verdict-at.ensures c.if-buffer-lt-LONGEST.false rules.code)
 
-pub returns-in-Accepted : goal.returns-in-Accepted
-returns-in-Accepted c =
+pub returns-in-Ok : goal.returns-in-Ok
+returns-in-Ok c =
     let image = c.args.image.now in
     let marks = c.args.marks.now in
     let outcome = checked image c.args.limits marks in
     listed_fits image marks c.args.buffer.now outcome c.if-buffer-lt-LONGEST.false (listing_size image c.args.limits marks) _ _ _
-    (rw (accepted_listing image _ outcome c.check-v.result c.check-v.ensures.marks_value c.in-Accepted.is) at (c.write_verdict-at.ensures then c.push_starts.ensures))
+    (rw (accepted_listing image _ outcome c.check-v.result c.check-v.ensures.marks_value c.in-Ok.is) at (c.write_verdict-at.ensures then c.push_starts.ensures))
     (sym (ap (λ (o : Verdict × List ℕ). o.1) c.check-v.ensures.marks_value))
 
-pub returns-in-Refused : goal.returns-in-Refused
-returns-in-Refused c =
+pub returns-in-Err : goal.returns-in-Err
+returns-in-Err c =
     let image = c.args.image.now in
     let marks = c.args.marks.now in
     let outcome = checked image c.args.limits marks in
     listed_fits image marks c.args.buffer.now outcome c.if-buffer-lt-LONGEST.false (listing_size image c.args.limits marks) _ _ _
-    (rw (refused_listing image _ outcome c.check-v.result c.check-v.ensures.marks_value c.in-Refused.is) at c.write_verdict-at.ensures)
+    (rw (refused_listing image _ outcome c.check-v.result c.check-v.ensures.marks_value c.in-Err.is) at c.write_verdict-at.ensures)
     (sym (ap (λ (o : Verdict × List ℕ). o.1) c.check-v.ensures.marks_value))

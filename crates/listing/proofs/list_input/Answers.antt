@@ -3,7 +3,7 @@ use Prim.Native.Nat.{ℕ}
 use mathlib.Core.Path.{refl, sym, ap, ◌∙◌}
 use mathlib.Core.List.{List}
 use native.Mathlib.Omega.{arith}
-use Rattle.rules.specs.declared.Verdict.{Verdict}
+use Rattle.rules.specs.Verdict.{Verdict}
 use Rattle.listing.specs.Listing.{image_in, checked_input}
 use Rattle.listing.proofs.Placing.{listed_short, listed_fits, refused_listing, input_short, input_listed}
 use Rattle.listing.proofs.Sizes.{input_listing_size}

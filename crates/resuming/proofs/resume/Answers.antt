@@ -2,7 +2,7 @@
 use Prim.Native.Nat.{ℕ}
 use mathlib.Core.Path.{refl, ap, ◌∙◌}
 use mathlib.Core.List.{List}
-use Rattle.rules.specs.declared.Verdict.{Verdict}
+use Rattle.rules.specs.Verdict.{Verdict}
 use mathlib.Core.Logic.{inl}
 use native.Mathlib.Omega.{arith}
 use Rattle.resuming.specs.Resuming.{no_memory, refused, accepted}
@@ -26,21 +26,21 @@ resume_accepted-requires c = record {
     given = c.args.marks.now;
     need = _;
     count = _;
-    verdict = ap (λ (r : Verdict × List ℕ). r.0) c.check_begins-checked.ensures.marks_value ∙ c.in-Accepted.is;
+    verdict = ap (λ (r : Verdict × List ℕ). r.0) c.check_begins-checked.ensures.marks_value ∙ c.in-Ok.is;
     left = ap (λ (r : Verdict × List ℕ). r.1) c.check_begins-checked.ensures.marks_value;
-    begin = c.check_begins-checked.ensures.by_index _ _ c.in-Accepted.is;
+    begin = c.check_begins-checked.ensures.by_index _ _ c.in-Ok.is;
   };
   memory_len = c.if-memory-ne32768.false;
 }
 
-pub returns-in-Refused : goal.returns-in-Refused
-returns-in-Refused c = record {
-  resumes = rw c.refused-in-Refused.ensures (refused c.if-memory-ne32768.false (rw c.in-Refused.is at c.check_begins-checked.ensures.marks_value));
-  resume_numbered = rw c.refused-in-Refused.ensures (check_numbered (rw c.in-Refused.is at c.check_begins-checked.ensures.verdict_numbered));
+pub returns-in-Err : goal.returns-in-Err
+returns-in-Err c = record {
+  resumes = rw c.refused-in-Err.ensures (refused c.if-memory-ne32768.false (rw c.in-Err.is at c.check_begins-checked.ensures.marks_value));
+  resume_numbered = rw c.refused-in-Err.ensures (check_numbered (rw c.in-Err.is at c.check_begins-checked.ensures.verdict_numbered));
 }
 
-pub returns-in-Accepted : goal.returns-in-Accepted
-returns-in-Accepted c = record {
-  resumes = accepted c.if-memory-ne32768.false (rw c.in-Accepted.is at c.check_begins-checked.ensures.marks_value) c.resume_accepted.ensures;
+pub returns-in-Ok : goal.returns-in-Ok
+returns-in-Ok c = record {
+  resumes = accepted c.if-memory-ne32768.false (rw c.in-Ok.is at c.check_begins-checked.ensures.marks_value) c.resume_accepted.ensures;
   resume_numbered = accepted_numbered c.resume_accepted.ensures;
 }

@@ -4,15 +4,15 @@ use Rattle.turns.proofs.turn.Goals as goal
 
 pub answer-requires : goal.answer-requires
 answer-requires c =
-    let h = accepted_layout _ _ _ c.check_begins-checked.ensures.marks_value c.in-Accepted.is in
-    (h.0, h.1, c.check_begins-checked.ensures.by_index _ _ c.in-Accepted.is)
+    let h = accepted_layout _ _ _ c.check_begins-checked.ensures.marks_value c.in-Ok.is in
+    (h.0, h.1, c.check_begins-checked.ensures.by_index _ _ c.in-Ok.is)
 
-pub returns-in-Refused : goal.returns-in-Refused
-returns-in-Refused c =
-    let answer = turn_refused _ _ _ c.check_begins-checked.ensures.marks_value c.in-Refused.is c.check_begins-checked.ensures.verdict_numbered in
+pub returns-in-Err : goal.returns-in-Err
+returns-in-Err c =
+    let answer = turn_refused _ _ _ c.check_begins-checked.ensures.marks_value c.in-Err.is c.check_begins-checked.ensures.verdict_numbered in
     record { marks_value = answer.0; turn_numbered = answer.1 }
 
-pub returns-in-Accepted : goal.returns-in-Accepted
-returns-in-Accepted c =
-    let answer = turn_accepted _ _ _ c.check_begins-checked.ensures.marks_value c.in-Accepted.is c.answer.ensures in
+pub returns-in-Ok : goal.returns-in-Ok
+returns-in-Ok c =
+    let answer = turn_accepted _ _ _ c.check_begins-checked.ensures.marks_value c.in-Ok.is c.answer.ensures in
     record { marks_value = answer.0; turn_numbered = answer.1 }
