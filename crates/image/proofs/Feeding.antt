@@ -1,5 +1,5 @@
 -- The state after a list of lengths, whatever the list: its sum, and whether one of them was 0.
-use Rattle.std.proofs.Common.{◌≡◌, ℕ, zero, suc, ◌+◌, ◌*◌, ◌%◌, ◌<◌, ◌≤◌, Bool, true, false, cond, not, eqb, ltb, ◌⊎◌, List, [], ◌∷◌, ◌++◌, map, length, get_or, take, set, sym, refl, ap, ◌∙◌, inl, inr, ⊎_elim, mod-eq_of_lt, zero-add, add-one, arith, length-set, get_or-set_other, take-suc, get_or-set_same, below_more, ltb-false, le-ltb, eq-eqb, ne_eqb, eqb-true}
+use Rattle.std.proofs.Common.{◌≡◌, ℕ, zero, suc, ◌+◌, ◌*◌, ◌%◌, ◌<◌, ◌≤◌, Bool, true, false, cond, not, eqb, ltb, ◌⊎◌, List, [], ◌∷◌, ◌++◌, map, length, get_or, take, set, sym, refl, ap, ◌∙◌, inl, inr, ⊎_elim, mod-eq_of_lt, zero-add, add-one, arith, get_or-set_other, take-suc, get_or-set_same, below_more, le-ltb, eq-eqb, ne_eqb, eqb-true}
 use mathlib.Core.List.{foldl}
 use Rattle.numbers.specs.Checks.{first, under, unless}
 use Rattle.numbers.specs.Folds.{total, first_in}
@@ -10,10 +10,6 @@ use Rattle.image.specs.Lengths.{unfed, fed, cut, after_all, SomeZero, BeginsTo16
 use Rattle.image.specs.Validation.{length_check, lengths_check, header_check}
 use Rattle.image.specs.declared.lengths.LengthState.{LengthState}
 use Rattle.image.proofs.Measuring.{lengths_count, length_listed}
-
--- the state before any length, by what its parts are
-pub unfed_is : {s : LengthState} → (s.sum ≡ 0) × (s.empty ≡ false) → s ≡ unfed
-unfed_is told = rw (told.0, told.1)
 
 -- a sum under 2^32 is not cut
 pub cut_whole : (s : LengthState) → s.sum < 0x100000000 → cut s ≡ s

@@ -1,7 +1,6 @@
 -- What validating says of an image: the number of a refusal, or the layout. And what the code answers, in these words.
 use Rattle.std.specs.Prelude.{ℕ, Result, Ok, Err}
 use Rattle.image.specs.declared.ImageError.{ImageError}
-use Rattle.image.specs.declared.ImageError.TheVariants as ImageError
 use Rattle.image.specs.declared.Layout.{Layout}
 
 pub data Validated : Type 0 where

@@ -9,7 +9,6 @@ use crate::{ImageError, Layout, LengthState};
 use numbers::words::{byte_at, word_at};
 
 // The image has 8 bytes or more, and begins with SLU.
-#[tactic(auto, unfolding(crate::specs::Validation::mark_check, numbers::specs::Folds::first_in, numbers::specs::Checks::first, numbers::specs::Checks::under, numbers::specs::Checks::unless))]
 pub(crate) fn mark_check(image: &[u8]) -> Result<(), ImageError>
     ensures { number_of result ≡ mark_check image.now }
 {
@@ -77,7 +76,7 @@ pub(crate) fn read_lengths(image: &[u8]) -> (LengthState, [u16; 32])
     ensures begins_to_16_bits { BeginsTo16 image.now result.1 (count_of image.now) }
 {
     let mut begins = [0u16; 32];
-    let mut state = LengthState::default();
+    let mut state = LengthState::new();
     let count = count_of(image) as usize;
     for k in 0..count {
         if k < 32 {

@@ -3,7 +3,7 @@ ghost use Rattle.std.specs.Prelude.{◌≡◌, if◌then◌else◌, nat_lt, slic
 ghost use Rattle.image.specs.Lengths.{unfed, fed, cut};
 
 // The sum of the lengths so far, which is under 2^24 for the 255 of the longest list, and whether one of them was 0.
-#[derive(Clone, Copy, Default)]
+#[derive(Clone, Copy)]
 pub struct LengthState {
     pub sum: u32,
     pub empty: bool,
@@ -14,7 +14,10 @@ impl LengthState {
     pub fn new() -> LengthState
         ensures { result ≡ unfed }
     {
-        LengthState::default()
+        LengthState {
+            sum: 0,
+            empty: false,
+        }
     }
 
     // After one more length; a sum past 32 bits, which no list of 255 comes to, loses the bits above.

@@ -17,6 +17,7 @@ pub use access::granted;
 pub use areas::{apart, limits_of};
 pub use header::{base_of, code_at, count_of, version_of};
 pub use lengths::{LengthState, begin_at};
+pub use measured::Measured;
 pub use parts::parts_check;
 
 // Addresses from low to high, both included.
@@ -62,11 +63,9 @@ impl ImageError {
     }
 }
 
-pub use measured::Measured;
-
 // The layout of an image under limits, and where its routines begin; or the first rule that is broken, in document 01's order.
 #[tactic(auto, using(crate::proofs::Alone::laid_under), unfolding(crate::specs::Validation::validated, crate::specs::Validation::refusal, numbers::specs::Folds::first_in, numbers::specs::Checks::first))]
-pub fn measure<'a>(image: &'a [u8], limits: Limits) -> Result<Measured<'a>, ImageError>
+pub fn measure(image: &[u8], limits: Limits) -> Result<Measured<'_>, ImageError>
     ensures answer { measured_answer result ≡ validated image.now limits }
     ensures same_image { IfOk result (λ measured. measured.image.now ≡ image.now) }
 {
@@ -75,7 +74,7 @@ pub fn measure<'a>(image: &'a [u8], limits: Limits) -> Result<Measured<'a>, Imag
 }
 
 // The same for an image by itself, with no limits.
-#[tactic(auto, using(numbers::proofs::Folding::first_none, crate::proofs::Alone::begins_alone), unfolding(crate::specs::Validation::laid_out, crate::specs::Validation::image_check, numbers::specs::Folds::first_in, numbers::specs::Checks::first))]
+#[tactic(auto, using(numbers::proofs::Folding::first_none), unfolding(crate::specs::Validation::laid_out, crate::specs::Validation::image_check, numbers::specs::Folds::first_in, numbers::specs::Checks::first))]
 pub fn measure_alone(image: &[u8]) -> Result<Measured<'_>, ImageError>
     ensures answer { measured_answer result ≡ laid_out image.now }
     ensures same_image { IfOk result (λ measured. measured.image.now ≡ image.now) }

@@ -12,7 +12,7 @@ fn feed_all(lengths: &[u16]) -> LengthState
     requires { length lengths.now ≤ 32 }
     ensures { result ≡ after_all lengths.now }
 {
-    let mut state = LengthState::default();
+    let mut state = LengthState::new();
     for length in lengths {
         state = state.feed(*length);
     }

@@ -6,6 +6,6 @@ use Rattle.layout_cells.proofs.filled_cells.Goals as goal
 
 pub returns : goal.returns
 returns c =
-  let measured = c.args.measured.now in
-  let few = (laid_bounds _ _ measured.is_laid_out).count.1 in
-  cells_filled measured.image.now measured.layout measured.begins few (omega arith) measured.routines_begin c.header_cells-cells.ensures c.copy_from_slice.ensures.after (omega arith)
+    let measured = c.args.measured.now in
+    let few = (laid_bounds _ _ measured.is_laid_out).count.1 in
+    cells_filled measured.image.now measured.layout measured.begins few (omega arith) measured.routines_begin c.header_cells-cells.ensures c.copy_from_slice.ensures.after (omega arith)

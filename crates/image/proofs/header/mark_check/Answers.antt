@@ -19,9 +19,9 @@ pub returns-then-image-lt8 : goal.returns-then-image-lt8
 unfolding mark_check first_in first under unless
 returns-then-image-lt8 c =
     elim c.then-image-lt8.branch [
-      then-image-lt8-via-then-image-lt8 w ↦ rw (lt-ltb _ _ w.if-image-lt8.true)
-    | then-image-lt8-via-else-image-lt8+then-not-starts_with w ↦
-      rw (le-ltb _ _ w.if-image-lt8.false, ← begins_with c.args.image.now w.starts_with.ensures.value, w.if-not-starts_with.true)
+      | then-image-lt8-via-then-image-lt8 w ↦ rw (lt-ltb _ _ w.if-image-lt8.true)
+      | then-image-lt8-via-else-image-lt8+then-not-starts_with w ↦
+          rw (le-ltb _ _ w.if-image-lt8.false, ← begins_with c.args.image.now w.starts_with.ensures.value, w.if-not-starts_with.true)
     ]
 
 pub returns : goal.returns

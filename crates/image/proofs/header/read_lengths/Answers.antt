@@ -1,9 +1,9 @@
 -- `image::header::read_lengths` meets its contract.
-use Rattle.std.proofs.Common.{◌≡◌, ◌+◌, ◌<◌, length, length-set, refl, ap, ◌∙◌, arith, take, take_all}
+use Rattle.std.proofs.Common.{◌≡◌, ◌<◌, length-set, refl, ap, ◌∙◌, arith, take, take_all}
 use Rattle.image.specs.Image.{count_of, lengths_of}
 use Rattle.image.specs.Lengths.{after_all}
 use Rattle.image.proofs.Measuring.{lengths_count}
-use Rattle.image.proofs.Feeding.{unfed_is, cut_whole, state_next, state_sum, gathered, past_32}
+use Rattle.image.proofs.Feeding.{cut_whole, state_next, state_sum, gathered, past_32}
 use Rattle.image.proofs.header.read_lengths.Goals as goal
 use Rattle.image.proofs.header.read_lengths.Goals.{then-k-lt32, else-k-lt32}
 
@@ -11,8 +11,8 @@ pub loop-k-init : goal.loop-k-init
 unfolding after_all
 loop-k-init c = record {
   size = refl;
-  state = unfed_is c.default-state.ensures;
-  small = omega (arith, c.default-state.ensures.0);
+  state = c.new-state.ensures;
+  small = rw c.new-state.ensures (omega arith);
   gathered = λ k below. absurd (omega arith);
 }
 
@@ -27,8 +27,8 @@ loop-k-preserved c =
       state = state_next image k below before.state c.word_at.ensures next;
       small = rw next (omega (arith, before.small));
       gathered = elim c.if-k-lt32.branch [
-        then-k-lt32 w ↦ rw w.begins-is (gathered image k _ before.size (state_sum image k before.state) before.gathered)
-      | else-k-lt32 w ↦ rw w.begins-is (past_32 image k _ w.if-k-lt32.false before.gathered)
+        | then-k-lt32 w ↦ rw w.begins-is (gathered image k _ before.size (state_sum image k before.state) before.gathered)
+        | else-k-lt32 w ↦ rw w.begins-is (past_32 image k _ w.if-k-lt32.false before.gathered)
       ];
     }
 

@@ -1,12 +1,12 @@
 -- `image::parts::feed_all` meets its contract.
-use Rattle.std.proofs.Common.{◌≡◌, ◌+◌, ◌<◌, length, sym, ◌∙◌, arith}
+use Rattle.std.proofs.Common.{◌<◌, length, sym, ◌∙◌, arith}
 use Rattle.image.specs.Lengths.{after_all}
-use Rattle.image.proofs.Feeding.{cut_whole, fed_more, unfed_is}
+use Rattle.image.proofs.Feeding.{cut_whole, fed_more}
 use Rattle.image.proofs.parts.feed_all.Goals as goal
 
 pub loop-length-init : goal.loop-length-init
 unfolding after_all
-loop-length-init c = (unfed_is c.default-state.ensures, omega (arith, c.default-state.ensures.0))
+loop-length-init c = (c.new-state.ensures, rw c.new-state.ensures (omega arith))
 
 pub loop-length-preserved : goal.loop-length-preserved
 loop-length-preserved c =
