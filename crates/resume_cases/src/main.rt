@@ -95,12 +95,8 @@ fn resume_case(
     print_resume_answer(out, resumed.answer)?;
     write!(out, " after {}, cycles {}", resumed.steps, resumed.cycles)?;
     let registers = RegistersText(resumed.registers);
-    write!(
-        out,
-        ": {registers}{}{}",
-        CellsText { memory, cells },
-        MarksText(marks)
-    )
+    write!(out, ": {registers}{}", CellsText { memory, cells })?;
+    write!(out, "{}", MarksText(marks))
 }
 
 // The answer of a case. One that resumes has a memory of zeros of its size, and marks of nines.
