@@ -11,7 +11,7 @@ use code::{decode_at, falls};
 use control_flow::{Refusal, Row};
 use decoder::decoding_number;
 use effects::effect_of;
-use stm8::{Decoded, Flow};
+use stm8::Flow;
 
 // What one start gives: the offset after its instruction, and its cells.
 #[derive(Clone, Copy)]
@@ -40,7 +40,7 @@ fn decode_start(
         MatchResult result (λ d. StartDecoded image r at 0 d.next d.row) (λ e. (e.at ≡ at) × StartDecoded image r at e.number 0 []) }
 {
     let d = decode_at(r.version, code, at, r.end);
-    let Decoded::Found(i, n) = d else {
+    let Ok((i, n)) = d else {
         return Err(Refusal {
             number: decoding_number(d),
             at,

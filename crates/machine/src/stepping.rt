@@ -15,9 +15,9 @@ ghost use Rattle.machine.specs.Step.{pc_trap, decoding_trap, decoded_step, step_
 use crate::traps::{pc_trap, sp_trap};
 use crate::{Registers, StepAnswer, Stepped, TimedStep};
 use code::decode_at;
-use image::{ImageError, Layout, Limits, Validated};
+use image::{ImageError, Layout, Limits};
 use numbers::checks::first;
-use stm8::Decoded;
+use stm8::{DecodeError, Decoded};
 use storage::Trap;
 
 // Why no step is tried: memory has not 32,768 bytes, or the image or the limits are not valid.
@@ -70,9 +70,9 @@ fn decoding_trap(decoded: Decoded) -> u8
     ensures { result ≡ decoding_trap decoded }
 {
     match decoded {
-        Decoded::Found(_, _) => 0,
-        Decoded::Outside => 23,
-        Decoded::Truncated => 22,
+        Ok(_) => 0,
+        Err(DecodeError::Outside) => 23,
+        Err(DecodeError::Truncated) => 22,
     }
 }
 
@@ -99,7 +99,7 @@ fn step_inside(
     ensures cycles_value { result.cycles ≡ cost_of result.stepped.answer (cycles_at image.now registers memory.old) }
 {
     let decoded = fetch(image, layout, registers.pc);
-    let Decoded::Found(i, n) = decoded else {
+    let Ok((i, n)) = decoded else {
         return without_cycles(registers.answer(StepAnswer::Trap(decoding_trap(decoded))));
     };
     registers.step(image, limits, memory, i, registers.pc + n as u32)

@@ -9,7 +9,7 @@ use Rattle.std.proofs.Common.{Result}
 use Rattle.disassembly.specs.declared.TooShort.{TooShort}
 use Rattle.gate_c.proofs.put_text.Goals as goal
 
-pub returns-in-Found : goal.returns-in-Found
-returns-in-Found c =
-    rw c.in-Found.is
+pub returns-in-Ok : goal.returns-in-Ok
+returns-in-Ok c =
+    rw c.in-Ok.is
     (ap (λ (x : Result ℕ TooShort × List ℕ). x.1) (c.disassemble.ensures.text ∙ text_placed _ _ (replicate 24 0) (lit≤ tt)))
