@@ -1,7 +1,6 @@
 // The check of an image under limits: refusals 1 to 16, the marks, the need and the count.
 #![tactic(auto)]
 
-mod marks;
 mod sweep;
 
 ghost use Rattle.std.specs.Prelude.{◌≡◌, ℕ, ◌≤◌, length};
@@ -15,27 +14,28 @@ ghost use Rattle.rules.specs.declared.Verdict.TheVariants.{Accepted};
 ghost use Rattle.acceptance.specs.Check.{checked};
 ghost use Rattle.checker.specs.Internal.{Small, VerdictOf, code_marks, CodeOutcome};
 
-use crate::marks::clear;
 use crate::sweep::{Sweep, sweep_routines};
+use control_flow::Refusal;
 use image::{Layout, Limits, Validated, measure};
 pub use rules::Verdict;
 pub use sweep::routine_at;
 
-// What the sweep's last state says; 16 comes last.
-fn verdict_of(limits: Limits, layout: Layout, s: Sweep) -> Verdict
-    requires { (1 ≤ layout.count) × (layout.count ≤ 32) × Small s }
-    ensures { VerdictOf limits layout.count s result }
+// What is said of what the sweep found; 16 comes last.
+fn verdict_of(limits: Limits, layout: Layout, swept: Result<Sweep, Refusal>) -> Verdict
+    requires { (1 ≤ layout.count) × (layout.count ≤ 32) × Small swept }
+    ensures { VerdictOf limits layout.count swept result }
 {
-    if s.refusal != 0 {
-        return Verdict::Refused(s.refusal, s.at as u16);
+    match swept {
+        Err(refusal) => Verdict::Refused(refusal.number, refusal.at as u16),
+        Ok(sweep) => {
+            let stack = limits.stack;
+            let need = sweep.needs[layout.count - 1] + 2;
+            if stack.high as usize + 1 < stack.low as usize + need as usize {
+                return Verdict::Refused(16, 0);
+            }
+            Verdict::Accepted(need, sweep.count as u16)
+        }
     }
-    let stack = limits.stack;
-    let main = layout.count - 1;
-    let need = s.needs[main] + 2;
-    if stack.high as usize + 1 < stack.low as usize + need as usize {
-        return Verdict::Refused(16, 0);
-    }
-    Verdict::Accepted(need, s.count as u16)
 }
 
 // Where the verdict refuses, all code marks are 0.
@@ -44,7 +44,7 @@ fn clear_refused(v: Verdict, marks: &mut [u16])
 {
     match v {
         Verdict::Accepted(_, _) => (),
-        Verdict::Refused(_, _) => clear(marks),
+        Verdict::Refused(_, _) => marks.fill(0),
     }
 }
 
@@ -59,9 +59,9 @@ fn check_code(
     requires { (validated image.now limits ≡ Valid layout) × Begins image.now begins.now layout.count × (length marks.old ≡ layout.size) }
     ensures { CodeOutcome image.now limits result marks.new }
 {
-    clear(marks);
-    let s = sweep_routines(image, limits, layout, begins, marks);
-    let v = verdict_of(limits, layout, s);
+    marks.fill(0);
+    let swept = sweep_routines(image, limits, layout, begins, marks);
+    let v = verdict_of(limits, layout, swept);
     clear_refused(v, marks);
     v
 }
