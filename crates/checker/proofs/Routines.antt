@@ -34,6 +34,9 @@ use Rattle.decode_pass.specs.declared.Routine.{Routine}
 use Rattle.decode_pass.proofs.DecodePass.{fault_some, start_below}
 use Rattle.checker.specs.Internal.{Clean, NeedsBelow, Swept, ended, stopped, Small}
 use Rattle.checker.specs.declared.sweep.Sweep.{Sweep}
+use Rattle.checker.specs.declared.sweep.Workspace.{Workspace}
+use Rattle.control_flow.specs.declared.Refusal.{Refusal}
+use Rattle.std.specs.Prelude.{Ok, Err}
 
 -- a routine with the code cut out of its image
 pub code_given : {image begins : List ℕ} {r : Routine} {at : ℕ} → at ≡ code_at image → RoutineOf image r → Begins image begins r.index →
@@ -82,10 +85,10 @@ routine_of {image} {limits} {layout} {index} valid below start_is end_is =
 
 -- a routine after the decode pass
 module _ {image : List ℕ} {r : Routine} {rows : List (List ℕ)} where
-  pub decode_refused : {number at need count : ℕ} {needs given marks : List ℕ} → RoutineDecoded image r rows number at → (number ≡ 0 → ⊥) →
+  pub decode_refused : {number at need count : ℕ} {needs given marks : List ℕ} → 1 ≤ number → RoutineDecoded image r rows number at →
       RoutineChecked image r.limits needs r.index given number at marks need count
-  decode_refused (refused l) not = code_refused l
-  decode_refused (filled f rest) not = absurd (not refl)
+  decode_refused some (refused l) = code_refused l
+  decode_refused some (filled f rest) = absurd (omega arith)
 
   pub decode_filled : {number at : ℕ} → RoutineDecoded image r rows number at → number ≡ 0 →
       Filled image r.limits r.index (cells_of r rows) × NoStarts r.end rows
@@ -93,9 +96,9 @@ module _ {image : List ℕ} {r : Routine} {rows : List (List ℕ)} where
   decode_filled (filled f rest) none = (f, rest)
 
 -- what it is checked with, before and after
-module _ {image : List ℕ} {r : Routine} (routine : RoutineOf image r) {rows : List (List ℕ)} {depths stack : List ℕ}
-    (clean : Clean r.start rows depths stack) {x : cells.Routine} (f : Filled image r.limits r.index x) where
-  pub checkable : Checkable x depths stack
+module _ {image : List ℕ} {r : Routine} (routine : RoutineOf image r) {work : Workspace} (clean : Clean r.start work) {x : cells.Routine}
+    (f : Filled image r.limits r.index x) where
+  pub checkable : Checkable x work.trail.depths work.trail.stack
   checkable =
       record {
         decoded = decoded f routine.layout routine.inside;
@@ -104,8 +107,8 @@ module _ {image : List ℕ} {r : Routine} (routine : RoutineOf image r) {rows : 
         clear = λ o s. clean.no_depths o (omega (arith, s.low, f.entry, routine.start_is));
       }
 
-  pub clean_after : {rows' : List (List ℕ)} {depths' stack' : List ℕ} → NoStarts r.end rows' → Left x depths depths' stack' →
-      Clean r.end rows' depths' stack'
+  pub clean_after : {after : Workspace} → NoStarts r.end after.cells → Left x work.trail.depths after.trail.depths after.trail.stack →
+      Clean r.end after
   clean_after rest left =
       record {
         no_starts = rest;
@@ -125,32 +128,27 @@ module _ {image : List ℕ} {r : Routine} (routine : RoutineOf image r) {needs m
   pub few_starts : counted ≤ r.start
   few_starts = omega (arith, routine.start_is, passed.counted, count_most (marked marks) (start_of image r.index))
 
--- the state between routines
-pub record Between (image : List ℕ) (limits : Limits) (layout : Layout) (marks : List ℕ) (s : Sweep) : Type 0 where
-  pub refusal : s.refusal ≡ 0
-  pub index : s.index ≤ layout.count
-  pub at : s.at ≡ start_of image s.index
-  pub passed : RoutinesPassed image limits s.index s.needs marks s.count
-  pub needs : NeedsBelow s.needs s.index
+-- the state between routines, where the next one is that at an index and begins at an offset
+pub record Between (image : List ℕ) (limits : Limits) (marks : List ℕ) (s : Sweep) (index start : ℕ) : Type 0 where
+  pub start_is : start ≡ start_of image index
+  pub passed : RoutinesPassed image limits index s.needs marks s.count
+  pub needs : NeedsBelow s.needs index
 
 -- no routine yet
-pub between_none : {image : List ℕ} {limits : Limits} {layout : Layout} {marks : List ℕ} {s : Sweep} → marks ≡ replicate (size_of image) 0 →
-    (s.refusal ≡ 0) × (s.at ≡ 0) × (s.index ≡ 0) × (s.count ≡ 0) × (s.needs ≡ replicate 32 0) → Between image limits layout marks s
-between_none {image} {limits} {s = s} clear e =
-    record {
-      refusal = e.0;
-      index = omega (arith, e.2);
-      at = e.1 ∙ sym (start_zero image) ∙ ap (start_of image) (sym e.2);
-      passed = rw (e.2, e.3, e.4, clear) (none_yet image limits);
-      needs = rw (e.2, e.4) no_needs;
-    }
+pub between_none : {image : List ℕ} {limits : Limits} {marks : List ℕ} → marks ≡ replicate (size_of image) 0 →
+    Between image limits marks (record { count = 0; needs = replicate 32 0 }) 0 0
+between_none {image} {limits} clear =
+    record { start_is = sym (start_zero image); passed = rw clear (none_yet image limits); needs = no_needs }
 
 blank_row : (n o : ℕ) → column 0 (replicate n (replicate {A = ℕ} 7 0)) o ≡ 0
 blank_row zero o = refl
 blank_row (suc n) zero = refl
 blank_row (suc n) (suc o) = blank_row n o
 
-pub zeros_clean : (from : ℕ) → Clean from (replicate 4096 (replicate {A = ℕ} 7 0)) (replicate 4096 0) (replicate 4096 0)
+pub zeros_clean : (from : ℕ) → Clean from (record {
+  cells = replicate 4096 (replicate {A = ℕ} 7 0);
+  trail = record { depths = replicate 4096 0; stack = replicate 4096 0 };
+})
 zeros_clean from =
     record {
       no_starts = record { size = length-replicate 4096 (replicate {A = ℕ} 7 0); clear = λ o past. blank_row 4096 o };
@@ -160,61 +158,48 @@ zeros_clean from =
     }
 
 module _ {image : List ℕ} {limits : Limits} {layout : Layout} (valid : validated image limits ≡ Valid layout) {marks : List ℕ} {s : Sweep}
-    (between : Between image limits layout marks s) where
+    {index start : ℕ} (between : Between image limits marks s index start) where
   -- all routines pass
-  pub swept_ended : layout.count ≤ s.index → Swept image limits s marks × Small s
+  pub swept_ended : index ≡ layout.count → Swept image limits marks (Ok s) × Small (Ok s)
   swept_ended all =
       let b = valid_bounds image limits layout valid in
-      let every : s.index ≡ count_of image = omega (arith, between.index, count_is image limits layout valid) in
-      let inside : start_of image s.index ≤ 4096 = omega (arith, start_inside image s.index, size_is image limits layout valid, b.size.1) in (
-        ended between.refusal (subst (λ (k : ℕ). RoutinesPassed image limits k s.needs marks s.count) every between.passed),
-        record {
-          at = omega (arith, between.at);
-          count = omega (arith, between.passed.counted, count_most (marked marks) (start_of image s.index));
-          needs = λ k. omega (arith, between.needs k, between.index, b.count.1);
-        },
+      let every : index ≡ count_of image = omega (arith, count_is image limits layout valid) in
+      let inside : start_of image index ≤ 4096 = omega (arith, start_inside image index, size_is image limits layout valid, b.size.1) in (
+        ended (subst (λ (k : ℕ). RoutinesPassed image limits k s.needs marks s.count) every between.passed),
+        (
+          omega (arith, between.passed.counted, count_most (marked marks) (start_of image index)),
+          λ k. omega (arith, between.needs k, b.count.1),
+        ),
       )
 
   -- the next routine
-  module _ {r : Routine} (routine : RoutineOf image r) (is : (r.index ≡ s.index) × (r.start ≡ s.at) × (r.limits ≡ limits)) where
+  module _ {r : Routine} (routine : RoutineOf image r) (is : (r.index ≡ index) × (r.start ≡ start) × (r.limits ≡ limits)) where
     pub routine_ready : RoutinesPassed image r.limits r.index s.needs marks s.count
     routine_ready = rw (is.0, is.2) between.passed
 
-    module _ {marks' : List ℕ} {number at need count : ℕ}
-        (x : RoutineChecked image r.limits s.needs r.index marks number at marks' need count) where
-      here : RoutineChecked image limits s.needs s.index marks number at marks' need count
+    pub swept_stopped : (refusal : Refusal) {marks' : List ℕ} {need count : ℕ} →
+        RoutineChecked image r.limits s.needs r.index marks refusal.number refusal.at marks' need count →
+        Swept image limits marks' (Err refusal) × Small (Err refusal)
+    swept_stopped refusal x =
+        let refused = checked_refused x (λ none. absurd (omega (arith, refusal.some))) in
+        let low = start_below routine (routine_refusal_at refused).start in (
+          stopped {given = marks} (omega (arith, is.0, routine.inside)) between.passed (rw (← is.0, ← is.2) refused),
+          omega (arith, low, routine.size),
+        )
+
+    module _ {marks' : List ℕ} {at need count : ℕ} (x : RoutineChecked image r.limits s.needs r.index marks 0 at marks' need count) where
+      here : RoutineChecked image limits s.needs index marks 0 at marks' need count
       here = rw (← is.0, ← is.2) x
 
-      pub need_fits : number ≡ 0 → need ≤ 65535
-      need_fits none = omega (arith, need_bound (checked_passed here none) (λ k below. between.needs k), is.0, routine.index)
+      pub need_fits : need ≤ 65535
+      need_fits = omega (arith, need_bound (checked_passed here refl) (λ k below. between.needs k), is.0, routine.index)
 
-      pub swept_stopped : {s' : Sweep} → (number ≡ 0 → ⊥) →
-          (s'.refusal ≡ number) × (s'.at ≡ at) × (s'.index ≡ s.index) × (s'.count ≡ s.count) × (s'.needs ≡ s.needs) →
-          Swept image limits s' marks' × Small s'
-      swept_stopped {s'} not e =
-          let refusal = checked_refused here not in
-          let start : Start image r.index at = rw is.0 (routine_refusal_at refusal).start in
-          let low = start_below routine start in (
-            stopped {given = marks} (λ z. not (sym e.0 ∙ z)) (omega (arith, e.2, is.0, routine.inside))
-                (rw (e.2, e.3, e.4) between.passed) (rw (e.0, e.1, e.2) refusal),
-            record {
-              at = omega (arith, e.1, low, routine.size);
-              count = omega (arith, e.3, is.1, few_starts routine routine_ready, routine.some, routine.size);
-              needs = λ k. rw e.4 (omega (arith, between.needs k, is.0, routine.index));
-            },
-          )
-
-      pub between_more : {s' : Sweep} → number ≡ 0 →
-          (s'.refusal ≡ 0) × (s'.at ≡ r.end) × (s'.index ≡ s.index + 1) × (s'.count ≡ count) × (s'.needs ≡ set s.needs s.index need) →
-          Between image limits layout marks' s'
-      between_more {s'} none e =
-          let passed = checked_passed here none in
-          let inside : s.index < count_of image = omega (arith, is.0, routine.inside) in
+      pub between_more : Between image limits marks' (record { count = count; needs = set s.needs index need }) (index + 1) r.end
+      between_more =
+          let passed = checked_passed here refl in
+          let inside : index < count_of image = omega (arith, is.0, routine.inside) in
           record {
-            refusal = e.0;
-            index = omega (arith, e.2, count_is image limits layout valid);
-            at =
-                e.1 ∙ routine.end_is ∙ ap (end_of image) is.0 ∙ sym (start_next image s.index inside) ∙ ap (start_of image) (sym e.2);
-            passed = rw (e.2, e.3, e.4) (one_more routine.layout inside between.passed passed);
-            needs = rw (e.2, e.4) (needs_bound passed between.needs);
+            start_is = routine.end_is ∙ ap (end_of image) is.0 ∙ sym (start_next image index inside);
+            passed = one_more routine.layout inside between.passed passed;
+            needs = needs_bound passed between.needs;
           }

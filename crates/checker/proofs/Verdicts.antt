@@ -21,6 +21,8 @@ use Rattle.acceptance.proofs.Accepting.{accepted_exactly}
 use Rattle.acceptance.proofs.Outcomes.{refused_outcome, no_room_outcome, accepted_outcome}
 use Rattle.checker.specs.Internal.{Swept, ended, stopped, last_need, VerdictOf, refusing, narrow, accepting, code_marks, CodeOutcome}
 use Rattle.checker.specs.declared.sweep.Sweep.{Sweep}
+use Rattle.control_flow.specs.declared.Refusal.{Refusal}
+use Rattle.std.specs.Prelude.{Result}
 
 -- the last routine is main
 reported : (image needs : List ℕ) (count : ℕ) → count ≡ count_of image → last_need needs count ≡ reported_need image (need_in needs)
@@ -28,20 +30,17 @@ unfolding main_of
 reported image needs count e = rw (← e) (omega arith)
 
 module _ {image : List ℕ} {limits : Limits} {layout : Layout} (valid : validated image limits ≡ Valid layout) (marks : List ℕ)
-    (size : length marks ≡ size_of image) {s : Sweep} where
-  outcome : {v : Verdict} → Swept image limits s marks → VerdictOf limits layout.count s v → (before : List ℕ) → size_of image ≤ length before →
-      Outcome image limits before v (code_marks v marks ++ drop (size_of image) before)
-  outcome (ended none passed) (refusing some) before enough = absurd (some none)
-  outcome (ended none passed) (narrow _ short) before enough =
+    (size : length marks ≡ size_of image) where
+  outcome : {swept : Result Sweep Refusal} {v : Verdict} → Swept image limits marks swept → VerdictOf limits layout.count swept v →
+      (before : List ℕ) → size_of image ≤ length before → Outcome image limits before v (code_marks v marks ++ drop (size_of image) before)
+  outcome (ended {s} passed) (narrow short) before enough =
       rw size (no_room_outcome valid before enough passed refl (reported image s.needs layout.count (count_is image limits layout valid)) short)
-  outcome (ended none passed) (accepting _ room) before enough =
+  outcome (ended {s} passed) (accepting room) before enough =
       accepted_outcome valid before enough passed refl (reported image s.needs layout.count (count_is image limits layout valid)) room
-  outcome (stopped some inside passed refusal) (refusing _) before enough = rw size (refused_outcome valid before enough passed inside refusal)
-  outcome (stopped some inside passed refusal) (narrow none short) before enough = absurd (some none)
-  outcome (stopped some inside passed refusal) (accepting none room) before enough = absurd (some none)
+  outcome (stopped inside passed refusal) refusing before enough = rw size (refused_outcome valid before enough passed inside refusal)
 
-  pub code_outcome : {v : Verdict} {after : List ℕ} → Swept image limits s marks → VerdictOf limits layout.count s v → after ≡ code_marks v marks →
-      CodeOutcome image limits v after
+  pub code_outcome : {swept : Result Sweep Refusal} {v : Verdict} {after : List ℕ} → Swept image limits marks swept →
+      VerdictOf limits layout.count swept v → after ≡ code_marks v marks → CodeOutcome image limits v after
   code_outcome swept verdict e = rw e (record { whole = outcome swept verdict })
 
 -- over marks that are more than the code has bytes

@@ -1,7 +1,6 @@
 // The check of an image under limits: refusals 1 to 16, the marks, the need and the count.
 #![tactic(auto)]
 
-mod marks;
 mod sweep;
 
 ghost use Rattle.std.specs.Prelude.{◌≡◌, ℕ, ◌≤◌, length};
@@ -14,36 +13,37 @@ ghost use Rattle.rules.specs.Verdict.{Accepted};
 ghost use Rattle.acceptance.specs.Check.{checked};
 ghost use Rattle.checker.specs.Internal.{Small, VerdictOf, code_marks, CodeOutcome};
 
-use crate::marks::clear;
 use crate::sweep::{Sweep, sweep_routines};
+use control_flow::Refusal as Stray;
 use image::{Layout, Limits, measure};
 pub use rules::{Acceptance, Refusal, Verdict};
 pub use sweep::routine_at;
 
-// What the sweep's last state says; 16 comes last.
-fn verdict_of(limits: Limits, layout: Layout, s: Sweep) -> Verdict
-    requires { (1 ≤ layout.count) × (layout.count ≤ 32) × Small s }
-    ensures { VerdictOf limits layout.count s result }
+// What is said of what the sweep found; 16 comes last.
+fn verdict_of(limits: Limits, layout: Layout, swept: Result<Sweep, Stray>) -> Verdict
+    requires { (1 ≤ layout.count) × (layout.count ≤ 32) × Small swept }
+    ensures { VerdictOf limits layout.count swept result }
 {
-    if s.refusal != 0 {
-        return Err(Refusal {
-            number: s.refusal,
-            offset: s.at as u16,
-        });
+    match swept {
+        Err(stray) => Err(Refusal {
+            number: stray.number,
+            offset: stray.at as u16,
+        }),
+        Ok(sweep) => {
+            let stack = limits.stack;
+            let need = sweep.needs[layout.count - 1] + 2;
+            if stack.high as usize + 1 < stack.low as usize + need as usize {
+                return Err(Refusal {
+                    number: 16,
+                    offset: 0,
+                });
+            }
+            Ok(Acceptance {
+                need,
+                count: sweep.count as u16,
+            })
+        }
     }
-    let stack = limits.stack;
-    let main = layout.count - 1;
-    let need = s.needs[main] + 2;
-    if stack.high as usize + 1 < stack.low as usize + need as usize {
-        return Err(Refusal {
-            number: 16,
-            offset: 0,
-        });
-    }
-    Ok(Acceptance {
-        need,
-        count: s.count as u16,
-    })
 }
 
 // Where the verdict refuses, all code marks are 0.
@@ -52,7 +52,7 @@ fn clear_refused(v: Verdict, marks: &mut [u16])
 {
     match v {
         Ok(_) => (),
-        Err(_) => clear(marks),
+        Err(_) => marks.fill(0),
     }
 }
 
@@ -67,9 +67,9 @@ fn check_code(
     requires { (validated image.now limits ≡ Valid layout) × Begins image.now begins.now layout.count × (length marks.old ≡ layout.size) }
     ensures { CodeOutcome image.now limits result marks.new }
 {
-    clear(marks);
-    let s = sweep_routines(image, limits, layout, begins, marks);
-    let v = verdict_of(limits, layout, s);
+    marks.fill(0);
+    let swept = sweep_routines(image, limits, layout, begins, marks);
+    let v = verdict_of(limits, layout, swept);
     clear_refused(v, marks);
     v
 }

@@ -33,6 +33,7 @@ pub struct Measured {
 
 // What routines are explored with, one after the other: the depth that is held at each code offset, 0 where none is known, and the offsets that are
 // still to be visited.
+#[derive(Drop)]
 pub struct Trail {
     pub depths: [u32; 4096],
     pub stack: [u16; 4096],

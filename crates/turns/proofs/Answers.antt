@@ -23,18 +23,18 @@ use Rattle.turns.specs.Values.{TurnNumbered}
 use Rattle.turns.specs.Internal.{MainSum}
 use Rattle.turns.specs.declared.TurnAnswer.{TurnAnswer}
 use Rattle.turns.specs.declared.TurnAnswer.TheVariants.{Refused, NoTurn, Over, Within}
-use Rattle.turns.specs.declared.summing.Sum.{Sum}
+use Rattle.std.specs.Prelude.{Some, None}
 use Rattle.turns.proofs.Holding.{over_held}
 
 -- by main's sum
-module _ {image : List ℕ} {s : Sum} (main : MainSum image s) where
-  pub answer_none : s.back ≡ true → NoTurn ≡ answer_of image
+module _ {image : List ℕ} where
+  pub answer_none : MainSum image None → NoTurn ≡ answer_of image
   unfolding answer_of
-  answer_none back = rw (← main.back, back)
+  answer_none back = rw back
 
-  pub answer_some : {answer : TurnAnswer} → s.back ≡ false → answer ≡ over_or_within s.turn → answer ≡ answer_of image
+  pub answer_some : {answer : TurnAnswer} {turn : ℕ} → MainSum image (Some turn) → answer ≡ over_or_within turn → answer ≡ answer_of image
   unfolding answer_of
-  answer_some back is = rw (← main.back, back) (is ∙ ap over_or_within (main.turn back) ∙ over_held (turn_of image (main_of image)))
+  answer_some main is = rw main.0 (is ∙ ap over_or_within main.1 ∙ over_held (turn_of image (main_of image)))
 
 -- what the numbers tell
 none_numbered : TurnNumbered NoTurn

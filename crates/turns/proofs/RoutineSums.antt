@@ -1,7 +1,7 @@
 -- A routine's sum, from start to start: what is summed so far and what is left make its turn, and a jump back is among what is left or nowhere.
 use Prim.Native.Nat.{ℕ, ◌+◌, ◌<◌, ◌≤◌}
 use mathlib.Core.Path.{◌≡◌, refl, sym, ap, ◌∙◌}
-use mathlib.Core.Bool.{Bool, true, false, false≢true}
+use mathlib.Core.Bool.{Bool, true, false}
 use mathlib.Core.List.{List, [], map}
 use native.Mathlib.Nat.{zero-add, add-zero}
 use native.Mathlib.Omega.{arith}
@@ -17,23 +17,29 @@ use Rattle.code.specs.Code.{instruction_at}
 use Rattle.code.specs.Instructions.{found_size, Located, located_at}
 use Rattle.code.proofs.Remaining.{instructions_from, from_start, from_end, from_found, from_none}
 use Rattle.turns.specs.Turn.{goes_back, jumps_back, some_in, routine_jumps_back, callee_turn, instruction_turn, turn_after}
-use Rattle.turns.specs.Internal.{held, CountedAt, one, nothing}
+use Rattle.turns.specs.Internal.{held, CountedAt, back, one, nothing}
+use Rattle.std.specs.Prelude.{Option, Some, None}
 use Rattle.turns.specs.declared.summing.Counted.{Counted}
 use Rattle.turns.proofs.Holding.{held_low, held_sum, held_more}
 
 -- what one start counts, with each value as a variable
 module _ {image turns : List ℕ} {r at : ℕ} where
   pub count_none : {end : ℕ} {error : DecodeError} → instruction_at image r at ≡ Err error → end ≡ end_of image r →
-      CountedAt image turns r at (record { turn = 0; back = false; next = end })
-  count_none none end_is = nothing (rw none) (rw none) refl refl end_is
+      CountedAt image turns r at (Some (record { turn = 0; next = end }))
+  count_none none end_is = nothing (rw none) (rw none) refl end_is
 
-  pub count_one : {i : Instruction} {n base t : ℕ} {e : Effect} {back : Bool} → instruction_at image r at ≡ Ok (i, n) → e ≡ effect i →
-      base ≡ base_of image → t ≡ held (callee_turn image turns r (call_target (base + at + n) e.flow)) →
-      back ≡ goes_back (base + at) (jump_target (base + at + n) e.flow) →
-      CountedAt image turns r at (record { turn = 1 + t; back = back; next = at + n })
-  count_one {n = n} found effect_is base_is turn_is back_is =
-      let next : base_of image + at + n ≡ base_of image + (at + n) = omega arith in
-      one found (held_more _ _ (rw (effect_is, base_is, next) at turn_is)) (rw (effect_is, base_is, next) at back_is) refl
+  module _ {i : Instruction} {n base : ℕ} {e : Effect} {goes : Bool} (found : instruction_at image r at ≡ Ok (i, n)) (effect_is : e ≡ effect i)
+      (base_is : base ≡ base_of image) (back_is : goes ≡ goes_back (base + at) (jump_target (base + at + n) e.flow)) where
+    next_is : base_of image + at + n ≡ base_of image + (at + n)
+    next_is = omega arith
+
+    pub count_back : goes ≡ true → CountedAt image turns r at None
+    count_back taken = back found (sym (rw (effect_is, base_is, next_is) at back_is) ∙ taken)
+
+    pub count_one : {t : ℕ} → goes ≡ false → t ≡ held (callee_turn image turns r (call_target (base + at + n) e.flow)) →
+        CountedAt image turns r at (Some (record { turn = 1 + t; next = at + n }))
+    count_one passed turn_is =
+        one found (sym (rw (effect_is, base_is, next_is) at back_is) ∙ passed) (held_more _ _ (rw (effect_is, base_is, next_is) at turn_is)) refl
 
 module _ (image turns : List ℕ) (r : ℕ) where
   -- the turn that is left from an offset on, and whether a jump back is there
@@ -96,20 +102,19 @@ module _ (image turns : List ℕ) (r : ℕ) where
   summed_none = record { sum = 0; is = held_low 0 (omega arith); whole = zero-add _ ∙ left_start; back = back_start }
 
   module _ {at turn : ℕ} (inside : at < end_of image r) (so_far : SummedTo at turn) where
-    pub summed_back : {c : Counted} → CountedAt image turns r at c → c.back ≡ true → true ≡ routine_jumps_back image r
-    summed_back (one found t b e) back = sym (back_taken inside found (sym b ∙ back)) ∙ so_far.back
-    summed_back (nothing there none t b e) back = absurd (false≢true (sym b ∙ back))
+    pub summed_back : CountedAt image turns r at None → routine_jumps_back image r ≡ true
+    summed_back (back found goes) = sym so_far.back ∙ back_taken inside found goes
 
-    pub summed_on : {c : Counted} → CountedAt image turns r at c → c.back ≡ false → SummedTo c.next (held (turn + c.turn))
-    summed_on {c} (one {i} {n} found t b e) back =
+    pub summed_on : {c : Counted} → CountedAt image turns r at (Some c) → SummedTo c.next (held (turn + c.turn))
+    summed_on {c} (one {i} {n} found passed t e) =
         let own = instruction_turn image turns r (record { offset = at; instruction = i; size = n }) in
         record {
           sum = so_far.sum + own;
           is = held_sum so_far.sum own turn c.turn so_far.is t;
           whole = rw e (omega (arith, left_found inside found, so_far.whole));
-          back = rw e (sym (back_passed inside found (sym b ∙ back)) ∙ so_far.back);
+          back = rw e (sym (back_passed inside found passed) ∙ so_far.back);
         }
-    summed_on {c} (nothing there none t b e) back =
+    summed_on {c} (nothing there none t e) =
         let past : end_of image r ≤ c.next = omega arith in
         record {
           sum = so_far.sum + 0;
@@ -119,5 +124,5 @@ module _ (image turns : List ℕ) (r : ℕ) where
         }
 
   pub summed_all : {at turn : ℕ} → end_of image r ≤ at → SummedTo at turn →
-      (turn ≡ held (turn_after image turns r)) × (false ≡ routine_jumps_back image r)
-  summed_all past s = (s.is ∙ ap held (sym (add-zero s.sum) ∙ ap (λ k. s.sum + k) (sym (left_end past)) ∙ s.whole), sym (back_end past) ∙ s.back)
+      (routine_jumps_back image r ≡ false) × (turn ≡ held (turn_after image turns r))
+  summed_all past s = (sym s.back ∙ back_end past, s.is ∙ ap held (sym (add-zero s.sum) ∙ ap (λ k. s.sum + k) (sym (left_end past)) ∙ s.whole))

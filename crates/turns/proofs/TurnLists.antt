@@ -14,9 +14,9 @@ use Rattle.numbers.specs.Computed.{counting}
 use Rattle.image.specs.Image.{count_of, start_of, end_of, main_of}
 use Rattle.image.proofs.Measuring.{start_zero, start_next}
 use Rattle.acceptance.proofs.AllRoutines.{zeros_at}
-use Rattle.turns.specs.Turn.{some_in, routine_jumps_back, some_jumps_back, turns_of, turn_of}
-use Rattle.turns.specs.Internal.{held, HeldIn, RoutineSum, MainSum}
-use Rattle.turns.specs.declared.summing.Sum.{Sum}
+use Rattle.turns.specs.Turn.{some_in, routine_jumps_back, some_jumps_back, turns_of, turn_after, turn_of}
+use Rattle.turns.specs.Internal.{held, HeldIn, MainSum}
+use Rattle.std.specs.Prelude.{Some, None}
 use Rattle.turns.proofs.Holding.{held_low}
 
 -- one element more does not change the others
@@ -80,36 +80,28 @@ module _ (image : List ℕ) where
         last = λ j e. absurd (omega arith);
       }
 
-  module _ {cells : List ℕ} {turn start k : ℕ} (b : Between cells turn start k) (inside : k < count_of image) {s : Sum}
-      (sum : RoutineSum image (turns_of image k) k s) where
+  module _ {cells : List ℕ} {turn start k : ℕ} (b : Between cells turn start k) (inside : k < count_of image) where
     more : count_of image - k ≡ suc (count_of image - suc k)
     more = omega arith
 
-    pub between_back : s.back ≡ true → MainSum image s
-    between_back back =
-        record {
-          back = back ∙ rw (more, ← sum.back, back) at b.rest;
-          turn = λ e. let z : ◌≡◌ {A = ℕ} 0 1 = cc in absurd (omega arith);
-        }
+    pub between_back : routine_jumps_back image k ≡ true → MainSum image None
+    between_back back = sym (rw (more, back) at b.rest)
 
-    pub between_next : {end : ℕ} → s.back ≡ false → count_of image ≤ 32 → end ≡ end_of image k →
-        Between (set cells k s.turn) s.turn end (k + 1)
-    between_next back most end_is =
+    pub between_next : {sum end : ℕ} → (routine_jumps_back image k ≡ false) × (sum ≡ held (turn_after image (turns_of image k) k)) →
+        count_of image ≤ 32 → end ≡ end_of image k → Between (set cells k sum) sum end (k + 1)
+    between_next {sum} passed most end_is =
         record {
           few = omega arith;
-          size = length-set cells k s.turn ∙ b.size;
+          size = length-set cells k sum ∙ b.size;
           start_is = end_is ∙ sym (start_next image k inside);
-          cells_hold = rw add-one (held_next cells k s.turn (omega (arith, b.size)) b.cells_hold (sum.turn back));
-          rest = rw add-one (rw (more, ← sum.back, back) at b.rest);
-          last = λ j e. let same : k ≡ j = omega arith in rw same at (sum.turn back);
+          cells_hold = rw add-one (held_next cells k sum (omega (arith, b.size)) b.cells_hold passed.1);
+          rest = rw add-one (rw (more, passed.0) at b.rest);
+          last = λ j e. let same : k ≡ j = omega arith in rw same at passed.1;
         }
 
   pub between_all : {cells : List ℕ} {turn start k : ℕ} → 1 ≤ count_of image → Between cells turn start k → count_of image ≤ k →
-      MainSum image (record { turn = turn; back = false })
+      MainSum image (Some turn)
   unfolding main_of
   between_all {k = k} some b all =
       let none : count_of image - k ≡ 0 = omega arith in
-      record {
-        back = rw none at b.rest;
-        turn = λ e. b.last (count_of image - 1) (omega (arith, b.few));
-      }
+      (sym (rw none at b.rest), b.last (count_of image - 1) (omega (arith, b.few)))

@@ -17,8 +17,9 @@ use checker::check_begins;
 use image::{Layout, Limits, base_of, code_at, count_of, version_of};
 
 // What is worked out for an image: refused as the check refuses it, with number and offset; no turn, where some jump goes to its own or a lower
-// address; over, where main's turn is above 4,294,967,295; else main's turn.
-#[derive(Clone, Copy)]
+// address; over, where main's turn is above 4,294,967,295; else main's turn. These are four answers of the definitions and of the theorems, and none of
+// them is an error of another.
+#[derive(Clone, Copy, Debug, PartialEq, Eq)]
 pub enum TurnAnswer {
     Refused(u8, u16),
     NoTurn,
@@ -27,7 +28,7 @@ pub enum TurnAnswer {
 }
 
 // An answer in numbers: 0 for a turn, 66 for none, 67 for over, else the refusal's; the refusal's offset, and the turn, 0 where there is none.
-#[derive(Clone, Copy)]
+#[derive(Clone, Copy, Debug, PartialEq, Eq)]
 pub struct TurnValues {
     pub number: u8,
     pub offset: u16,
@@ -66,11 +67,10 @@ fn answer(image: &[u8], limits: Limits, begins: &[u16; 32]) -> TurnAnswer
     ensures { result ≡ answer_of image.now }
 {
     let layout = layout_of(image);
-    let main = sum_main(image, limits, layout, begins);
-    if main.back {
-        return TurnAnswer::NoTurn;
+    match sum_main(image, limits, layout, begins) {
+        Some(turn) => over_or_within(turn),
+        None => TurnAnswer::NoTurn,
     }
-    over_or_within(main.turn)
 }
 
 // The turn of an image under limits. It refuses as the check does.

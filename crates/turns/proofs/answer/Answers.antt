@@ -3,12 +3,12 @@ use Rattle.image.specs.Image.{layout_of}
 use Rattle.turns.proofs.Answers.{answer_none, answer_some}
 use Rattle.turns.proofs.answer.Goals as goal
 
-pub sum_main-main-requires : goal.sum_main-main-requires
+pub sum_main-requires : goal.sum_main-requires
 unfolding layout_of
-sum_main-main-requires c = rw c.layout_of-layout.ensures (c.requires.1, c.requires.2)
+sum_main-requires c = rw c.layout_of-layout.ensures (c.requires.1, c.requires.2)
 
-pub returns-then-main : goal.returns-then-main
-returns-then-main c = answer_none c.sum_main-main.ensures c.if-main.true
+pub returns-in-Some : goal.returns-in-Some
+returns-in-Some c = answer_some c.in-Some.ensures c.over_or_within.ensures
 
-pub returns : goal.returns
-returns c = answer_some c.sum_main-main.ensures c.if-main.false c.over_or_within.ensures
+pub returns-in-None : goal.returns-in-None
+returns-in-None c = answer_none c.in-None.ensures

@@ -1,60 +1,51 @@
 -- `checker::sweep::sweep_routines` meets its contract. The loop's invariant: the routines so far pass, and from the next one on nothing is a start
 -- yet.
-use Prim.Native.Nat.{ℕ}
-use mathlib.Core.Path.{sym, ap, ◌∙◌}
-use native.Mathlib.Omega.{arith}
-use lib.ListN.{length, length-replicate}
+use Rattle.std.proofs.Common.{◌≡◌, arith}
+use Rattle.std.proofs.lemmas.Result.{err_from_is_err_and}
 use Rattle.checker.proofs.Routines.{between_none, zeros_clean, routine_ready, need_fits, swept_stopped, between_more, swept_ended}
+use Rattle.decode_pass.specs.Pass.{RoutineOf}
 use Rattle.checker.proofs.sweep.sweep_routines.Goals as goal
+use Rattle.checker.proofs.sweep.sweep_routines.Goals.{After-routine_at-r}
 
-pub loop-s-init : goal.loop-s-init
-loop-s-init c = (between_none c.requires.2 c.begun-s.ensures, zeros_clean _)
+pub loop-index-init : goal.loop-index-init
+loop-index-init c = (between_none c.requires.2, zeros_clean _)
 
 -- in each turn the next routine is one of the image
-pub check_routine-x-requires : goal.check_routine-x-requires
-check_routine-x-requires c =
-    let routine = c.routine_at-r.ensures.by_index _ c.requires.0 c.requires.1 c.loop-s-test.true c.loop-s.invariant.0.at in (
+next : (c : After-routine_at-r) → RoutineOf c.args.image.now c.routine_at-r.result
+next c = c.routine_at-r.ensures.by_index _ c.requires.0 c.requires.1 c.loop-index-test.true c.loop-index.invariant.0.start_is
+
+pub check_routine-requires : goal.check_routine-requires
+check_routine-requires c =
+    let routine = next (goal.at.check_routine-requires c).After-routine_at-r in (
       routine,
-      λ k below. c.requires.1 k (omega (arith, c.routine_at-r.ensures.index_value.0, c.loop-s-test.true)),
-      rw c.routine_at-r.ensures.index_value.1 c.loop-s.invariant.1,
-      routine_ready c.requires.0 c.loop-s.invariant.0 routine c.routine_at-r.ensures.index_value,
+      λ k below. c.requires.1 k (omega (arith, c.routine_at-r.ensures.index_value.0, c.loop-index-test.true)),
+      rw c.routine_at-r.ensures.index_value.1 c.loop-index.invariant.1,
+      routine_ready c.requires.0 c.loop-index.invariant.0 routine c.routine_at-r.ensures.index_value,
     )
 
-pub shape_of-marks-then-x-ne0 : goal.shape_of-marks-then-x-ne0
-shape_of-marks-then-x-ne0 c =
-    c.check_routine-x.auto.marks ∙ c.loop-s.invariant.0.passed.size ∙
-    sym (ap length c.requires.2 ∙ length-replicate {A = ℕ} _ 0)
+pub returns-in_err-measured : goal.returns-in_err-measured
+returns-in_err-measured c =
+    let refusal = err_from_is_err_and c.from_residual.result c.from_residual.ensures.1 in
+    let routine = next (goal.at.returns-in_err-measured c).After-routine_at-r in
+    let stopped =
+    swept_stopped c.requires.0 c.loop-index.invariant.0 routine c.routine_at-r.ensures.index_value c.in_err-measured.field-0.0
+    c.in_err-measured.ensures.routine_checked in
+    rw (refusal.1, refusal.2) (record { swept = stopped.0; small = stopped.1 })
 
-pub returns-then-x-ne0 : goal.returns-then-x-ne0
-returns-then-x-ne0 c =
-    let routine = c.routine_at-r.ensures.by_index _ c.requires.0 c.requires.1 c.loop-s-test.true c.loop-s.invariant.0.at in
-    let done =
-    swept_stopped c.requires.0 c.loop-s.invariant.0 routine c.routine_at-r.ensures.index_value
-    c.check_routine-x.ensures.routine_checked c.if-x-ne0.true c.stopped.ensures in
-    record { swept = done.0; small = done.1 }
+pub overflow_cast-done : goal.overflow_cast-done
+overflow_cast-done c =
+    let routine = next (goal.at.overflow_cast-done c).After-routine_at-r in
+    omega (arith, need_fits c.requires.0 c.loop-index.invariant.0 routine c.routine_at-r.ensures.index_value c.in_ok-measured.ensures.routine_checked)
 
-pub closed-s-requires : goal.closed-s-requires
-closed-s-requires c =
-    let routine = c.routine_at-r.ensures.by_index _ c.requires.0 c.requires.1 c.loop-s-test.true c.loop-s.invariant.0.at in (
-      omega (arith, c.routine_at-r.ensures.index_value.0, routine.index),
-      need_fits c.requires.0 c.loop-s.invariant.0 routine c.routine_at-r.ensures.index_value c.check_routine-x.ensures.routine_checked c.if-x-ne0.false,
+pub loop-index-preserved : goal.loop-index-preserved
+loop-index-preserved c =
+    let routine = next (goal.at.loop-index-preserved c).After-routine_at-r in (
+      between_more c.requires.0 c.loop-index.invariant.0 routine c.routine_at-r.ensures.index_value c.in_ok-measured.ensures.routine_checked,
+      c.in_ok-measured.ensures.clean,
     )
-
-pub loop-s-smaller : goal.loop-s-smaller
-loop-s-smaller c = omega (arith, c.closed-s.ensures.2, c.loop-s-test.true)
-
-pub loop-s-preserved : goal.loop-s-preserved
-loop-s-preserved c =
-    let routine = c.routine_at-r.ensures.by_index _ c.requires.0 c.requires.1 c.loop-s-test.true c.loop-s.invariant.0.at in (
-      between_more c.requires.0 c.loop-s.invariant.0 routine c.routine_at-r.ensures.index_value
-          c.check_routine-x.ensures.routine_checked c.if-x-ne0.false c.closed-s.ensures,
-      rw c.closed-s.ensures.1 (c.check_routine-x.ensures.clean c.if-x-ne0.false),
-    )
-
-pub shape_of-marks : goal.shape_of-marks
-shape_of-marks c = c.loop-s.invariant.0.passed.size ∙ sym (ap length c.requires.2 ∙ length-replicate {A = ℕ} _ 0)
 
 pub returns : goal.returns
 returns c =
-    let done = swept_ended c.requires.0 c.loop-s.invariant.0 c.loop-s-test.false in
+    let all : c.loop-index.index ≡ c.args.layout.count = omega (arith, c.loop-index.auto.index-end, c.loop-index-test.false) in
+    let done = swept_ended c.requires.0 c.loop-index.invariant.0 all in
     record { swept = done.0; small = done.1 }
