@@ -14,29 +14,25 @@ ghost use Rattle.acceptance.specs.Check.{checked};
 ghost use Rattle.checker.specs.Internal.{Small, VerdictOf, code_marks, CodeOutcome};
 
 use crate::sweep::{Sweep, sweep_routines};
-use control_flow::Refusal as Stray;
 use image::{Layout, Limits, measure};
 pub use rules::{Acceptance, Refusal, Verdict};
 pub use sweep::routine_at;
 
 // What is said of what the sweep found; 16 comes last.
-fn verdict_of(limits: Limits, layout: Layout, swept: Result<Sweep, Stray>) -> Verdict
+fn verdict_of(limits: Limits, layout: Layout, swept: Result<Sweep, control_flow::Refusal>) -> Verdict
     requires { (1 ≤ layout.count) × (layout.count ≤ 32) × Small swept }
     ensures { VerdictOf limits layout.count swept result }
 {
     match swept {
-        Err(stray) => Err(Refusal {
-            number: stray.number,
-            offset: stray.at as u16,
+        Err(refusal) => Err(Refusal {
+            number: refusal.number,
+            offset: refusal.at as u16,
         }),
         Ok(sweep) => {
             let stack = limits.stack;
             let need = sweep.needs[layout.count - 1] + 2;
             if stack.high as usize + 1 < stack.low as usize + need as usize {
-                return Err(Refusal {
-                    number: 16,
-                    offset: 0,
-                });
+                return Err(Refusal::of_rule(16));
             }
             Ok(Acceptance {
                 need,
@@ -87,10 +83,7 @@ fn check_valid(
 {
     let size = layout.size;
     if marks.len() < size {
-        return Err(Refusal {
-            number: 5,
-            offset: 0,
-        });
+        return Err(Refusal::of_rule(5));
     }
     check_code(image, limits, layout, begins, &mut marks[..size])
 }
@@ -116,7 +109,7 @@ pub fn check_begins(image: &[u8], limits: Limits, marks: &mut [u16]) -> CheckedI
         }
         Err(error) => {
             let begins = [0u16; 32];
-            let verdict = Err(Refusal { number: error.number(), offset: 0 });
+            let verdict = Err(Refusal::of_rule(error.number()));
             CheckedImage { verdict, begins }
         }
     }

@@ -95,10 +95,7 @@ pub fn start(
     ensures verdict_numbered { VerdictNumbered 17 result.verdict }
 {
     if memory.len() != 32768 {
-        return refused(Err(Refusal {
-            number: 17,
-            offset: 0,
-        }));
+        return refused(Err(Refusal::of_rule(17)));
     }
     let checked = check_begins(image, limits, marks);
     let verdict = checked.verdict;

@@ -44,10 +44,7 @@ pub fn list_input(input: &[u8], marks: &mut [u16], buffer: &mut [u8]) -> Written
     if input.len() < 12 {
         return Written::Bytes(write_verdict(
             buffer,
-            Err(Refusal {
-                number: 1,
-                offset: 0,
-            }),
+            Err(Refusal::of_rule(1)),
         ));
     }
     list(&input[12..], limits_of(input), marks, buffer)

@@ -18,6 +18,15 @@ pub struct Refusal {
     pub offset: u16,
 }
 
+impl Refusal {
+    // Of a rule that names no offset.
+    pub fn of_rule(number: u8) -> Refusal
+        ensures { result ≡ record { number = number; offset = 0 } }
+    {
+        Refusal { number, offset: 0 }
+    }
+}
+
 pub type Verdict = Result<Acceptance, Refusal>;
 
 // Document 01's number of a verdict, 0 where it accepts.
