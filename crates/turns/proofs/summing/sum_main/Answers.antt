@@ -16,7 +16,7 @@ loop-index-init c = between_none _
 
 -- in each turn of the loop the next routine is one of the image
 next : (c : After-routine_at-r) → RoutineOf c.args.image.now c.routine_at-r.result
-next c = c.routine_at-r.ensures.by_index _ c.requires.0 c.requires.1 c.loop-index-test.true c.loop-index.invariant.start_is
+next c = c.routine_at-r.ensures.routine _ c.requires.0 c.requires.1 c.loop-index-test.true c.loop-index.invariant.start_is
 
 pub slice_bounds-sum_routine-count : goal.slice_bounds-sum_routine-count
 slice_bounds-sum_routine-count c = let bounds = valid_bounds _ _ _ c.requires.0 in omega (arith, bounds.end)
@@ -34,9 +34,9 @@ pub returns-in_err-turn : goal.returns-in_err-turn
 returns-in_err-turn c =
     let routine = next (goal.at.returns-in_err-turn c).After-routine_at-r in
     let given =
-    code_given (code_is _ _ _ c.requires.0) routine (λ k below. c.requires.1 k (omega (arith, c.routine_at-r.ensures.index_value.0, c.loop-index-test.true))) in
+    code_given (code_is _ _ _ c.requires.0) routine (λ k below. c.requires.1 k (omega (arith, c.routine_at-r.ensures.place.0, c.loop-index-test.true))) in
     let back =
-    rw c.routine_at-r.ensures.index_value.0 at
+    rw c.routine_at-r.ensures.place.0 at
     (c.in_err-turn.ensures.summed _ (turns_of c.args.image.now c.loop-index.index) given c.loop-index.invariant.cells_hold) in
     rw c.from_residual.ensures
     (between_back _ c.loop-index.invariant (omega (arith, c.loop-index-test.true, count_is _ _ _ c.requires.0)) back)
@@ -45,12 +45,12 @@ pub loop-index-preserved : goal.loop-index-preserved
 loop-index-preserved c =
     let routine = next (goal.at.loop-index-preserved c).After-routine_at-r in
     let given =
-    code_given (code_is _ _ _ c.requires.0) routine (λ k below. c.requires.1 k (omega (arith, c.routine_at-r.ensures.index_value.0, c.loop-index-test.true))) in
+    code_given (code_is _ _ _ c.requires.0) routine (λ k below. c.requires.1 k (omega (arith, c.routine_at-r.ensures.place.0, c.loop-index-test.true))) in
     let summed =
-    rw c.routine_at-r.ensures.index_value.0 at
+    rw c.routine_at-r.ensures.place.0 at
     (c.in_ok-turn.ensures.summed _ (turns_of c.args.image.now c.loop-index.index) given c.loop-index.invariant.cells_hold) in
     between_next _ c.loop-index.invariant (omega (arith, c.loop-index-test.true, count_is _ _ _ c.requires.0)) summed
-    routine.layout.count.1 (routine.end_is ∙ ap (end_of _) c.routine_at-r.ensures.index_value.0)
+    routine.layout.count.1 (routine.end_is ∙ ap (end_of _) c.routine_at-r.ensures.place.0)
 
 pub returns : goal.returns
 returns c =
