@@ -50,9 +50,9 @@ pub fn routine_at(
     index: usize,
     start: usize,
 ) -> Routine
-    ensures by_index { (image : List ℕ) → validated image limits ≡ Valid layout → Begins image begins.now layout.count →
+    ensures routine { (image : List ℕ) → validated image limits ≡ Valid layout → Begins image begins.now layout.count →
         index < layout.count → start ≡ start_of image index → RoutineOf image result }
-    ensures index_value { (result.index ≡ index) × (result.start ≡ start) × (result.limits ≡ limits) }
+    ensures place { (result.index ≡ index) × (result.start ≡ start) × (result.limits ≡ limits) }
 {
     let end = end_of(layout, begins, index);
     Routine {

@@ -27,7 +27,7 @@ use Rattle.std.specs.Prelude.{Some, None}
 use Rattle.turns.proofs.Holding.{over_held}
 
 -- by main's sum
-module _ {image : List ℕ} where
+module _ (image : List ℕ) where
   pub answer_none : MainSum image None → NoTurn ≡ answer_of image
   unfolding answer_of
   answer_none back = rw back

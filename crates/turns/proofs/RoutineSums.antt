@@ -30,16 +30,16 @@ module _ {image turns : List ℕ} {r at : ℕ} where
 
   module _ {i : Instruction} {n base : ℕ} {e : Effect} {goes : Bool} (found : instruction_at image r at ≡ Ok (i, n)) (effect_is : e ≡ effect i)
       (base_is : base ≡ base_of image) (back_is : goes ≡ goes_back (base + at) (jump_target (base + at + n) e.flow)) where
-    next_is : base_of image + at + n ≡ base_of image + (at + n)
-    next_is = omega arith
-
     pub count_back : goes ≡ true → CountedAt image turns r at None
-    count_back taken = back found (sym (rw (effect_is, base_is, next_is) at back_is) ∙ taken)
+    count_back taken =
+        let next : base_of image + at + n ≡ base_of image + (at + n) = omega arith in
+        back found (sym (rw (effect_is, base_is, next) at back_is) ∙ taken)
 
     pub count_one : {t : ℕ} → goes ≡ false → t ≡ held (callee_turn image turns r (call_target (base + at + n) e.flow)) →
         CountedAt image turns r at (Some (record { turn = 1 + t; next = at + n }))
     count_one passed turn_is =
-        one found (sym (rw (effect_is, base_is, next_is) at back_is) ∙ passed) (held_more _ _ (rw (effect_is, base_is, next_is) at turn_is)) refl
+        let next : base_of image + at + n ≡ base_of image + (at + n) = omega arith in
+        one found (sym (rw (effect_is, base_is, next) at back_is) ∙ passed) (held_more _ _ (rw (effect_is, base_is, next) at turn_is)) refl
 
 module _ (image turns : List ℕ) (r : ℕ) where
   -- the turn that is left from an offset on, and whether a jump back is there

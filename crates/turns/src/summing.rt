@@ -23,6 +23,7 @@ struct Counted {
 }
 
 // A sum above 4,294,967,295 is held as 4,294,967,296, so that no sum of two wraps.
+#[tactic(auto, unfolding(crate::specs::Internal::held))]
 fn held(n: u64) -> u64
     ensures { result ≡ held_of n }
 {
@@ -30,6 +31,7 @@ fn held(n: u64) -> u64
 }
 
 // The turn of the routine that is called, 0 where nothing is; `next` is the address after the instruction.
+#[tactic(auto, unfolding(stm8::specs::Effects::call_target, crate::specs::Internal::held))]
 fn callee_turn(begins: &[u16; 32], turns: &[u64; 32], r: Routine, next: u32, flow: Flow) -> u64
     requires { (r.index < 32) × Fit turns.now }
     ensures upper_bound { result ≤ 4294967296 }
@@ -47,6 +49,7 @@ fn callee_turn(begins: &[u16; 32], turns: &[u64; 32], r: Routine, next: u32, flo
 }
 
 // Whether an instruction at an address, with `next` after it, jumps to that address or a lower one.
+#[tactic(auto, unfolding(stm8::specs::Effects::jump_target))]
 fn goes_back(own: usize, next: u32, flow: Flow) -> bool
     ensures { result ≡ goes_back own (jump_target next flow) }
 {

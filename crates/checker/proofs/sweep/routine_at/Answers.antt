@@ -5,6 +5,6 @@ use Rattle.checker.proofs.sweep.routine_at.Goals as goal
 
 pub returns : goal.returns
 returns c = record {
-  by_index = λ image valid told below start_is. routine_of valid below start_is (c.end_of-end.ensures image _ valid told below);
-  index_value = (refl, refl, refl);
+  routine = λ image valid told below start_is. routine_of valid below start_is (c.end_of-end.ensures image _ valid told below);
+  place = (refl, refl, refl);
 }
