@@ -19,7 +19,11 @@ pub use rules::{Acceptance, Refusal, Verdict};
 pub use sweep::routine_at;
 
 // What is said of what the sweep found; 16 comes last.
-fn verdict_of(limits: Limits, layout: Layout, swept: Result<Sweep, control_flow::Refusal>) -> Verdict
+fn verdict_of(
+    limits: Limits,
+    layout: Layout,
+    swept: Result<Sweep, control_flow::Refusal>,
+) -> Verdict
     requires { (1 ≤ layout.count) × (layout.count ≤ 32) × Small swept }
     ensures { VerdictOf limits layout.count swept result }
 {

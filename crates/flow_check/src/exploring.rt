@@ -111,19 +111,17 @@ pub(crate) fn explore(entry: usize, cells: &[Row; 4096], trail: &mut Trail) -> b
 }
 
 // The lowest start of a routine whose depth is not known.
-pub(crate) fn lowest_unknown(
-    span: Span,
-    cells: &[Row; 4096],
-    depths: &[u32; 4096],
-) -> Option<usize>
+pub(crate) fn lowest_unknown(span: Span, cells: &[Row; 4096], depths: &[u32; 4096]) -> Option<usize>
     ensures { MatchOption result (LowestUnknown (routine span.entry span.end cells.now) depths.now span.end)
         (λ at. (at < span.end) × LowestUnknown (routine span.entry span.end cells.now) depths.now at) }
 {
-    (span.entry..span.end).find(|at| -> bool
-        requires { at.now < 4096 }
-        ensures { IsTrue result ↔ (1 ≤ column 0 cells.entry.now at.now) × (slice_index depths.entry.now at.now ≡ 0) }
-    {
-        let row = cells[*at];
-        row.start != 0 && depths[*at] == 0
-    })
+    (span.entry..span.end).find(
+        |at| -> bool
+            requires { at.now < 4096 }
+            ensures { IsTrue result ↔ (1 ≤ column 0 cells.entry.now at.now) × (slice_index depths.entry.now at.now ≡ 0) }
+        {
+            let row = cells[*at];
+            row.start != 0 && depths[*at] == 0
+        },
+    )
 }

@@ -116,12 +116,5 @@ pub fn check_flow(
             count: counted,
         });
     }
-    check_passes(
-        Span { entry, end },
-        cells,
-        needs,
-        counted,
-        trail,
-        marks,
-    )
+    check_passes(Span { entry, end }, cells, needs, counted, trail, marks)
 }

@@ -53,9 +53,9 @@ fn measure_at(
     requires { (at < 4096) × (at < length marks.old) × (m.count ≤ 4096) }
     ensures { (entry end : ℕ) → MatchResult result
         (λ n. DepthStep (routine entry end cells.now) needs.now middle (held_in depths.now) marks.old at m.need m.count
-            0 (at + 1) marks.new n.need n.count)
+        0 (at + 1) marks.new n.need n.count)
         (λ r. DepthStep (routine entry end cells.now) needs.now middle (held_in depths.now) marks.old at m.need m.count
-            r.number r.at marks.new m.need m.count) }
+        r.number r.at marks.new m.need m.count) }
 {
     let row = cells[at];
     if row.start == 0 {

@@ -42,10 +42,7 @@ pub fn list_input(input: &[u8], marks: &mut [u16], buffer: &mut [u8]) -> Written
         return Written::TooShort;
     }
     if input.len() < 12 {
-        return Written::Bytes(write_verdict(
-            buffer,
-            Err(Refusal::of_rule(1)),
-        ));
+        return Written::Bytes(write_verdict(buffer, Err(Refusal::of_rule(1))));
     }
     list(&input[12..], limits_of(input), marks, buffer)
 }

@@ -27,24 +27,27 @@ pub returns-in_default : goal.returns-in_default
 returns-in_default c asks =
     let f = formed (goal.at.returns-in_default c).In_ok-check_jumps asks in
     let found = c.explore-agree.ensures (explorable f asks.clear asks.cells asks.slots) in
-    rw c.in_default.is
-    (outcome_passes f asks.clear found.0 (landed (goal.at.returns-in_default c).In_ok-check_jumps)
-    (λ a. c.in_default.ensures.depths_tested a (measurable f asks.clear found.0 a c.requires.1 c.requires.2))
-    c.in_default.ensures.disagrees refl,
-    left f asks.clear found.0 found.1)
+    rw c.in_default.is (
+      outcome_passes f asks.clear found.0 (landed (goal.at.returns-in_default c).In_ok-check_jumps)
+          (λ a. c.in_default.ensures.depths_tested a (measurable f asks.clear found.0 a c.requires.1 c.requires.2))
+          c.in_default.ensures.disagrees refl,
+      left f asks.clear found.0 found.1,
+    )
 
 pub returns-in-Some : goal.returns-in-Some
 returns-in-Some c asks =
     let f = formed (goal.at.returns-in-Some c).In_ok-check_jumps asks in
-    let found = c.explore-agree.ensures (explorable f asks.clear asks.cells asks.slots) in
-    (unreached_at f asks.clear found.0 c.in-Some.ensures.1 (landed (goal.at.returns-in-Some c).In_ok-check_jumps) c.in-Some.ensures.0,
-    left f asks.clear found.0 found.1)
+    let found = c.explore-agree.ensures (explorable f asks.clear asks.cells asks.slots) in (
+      unreached_at f asks.clear found.0 c.in-Some.ensures.1 (landed (goal.at.returns-in-Some c).In_ok-check_jumps) c.in-Some.ensures.0,
+      left f asks.clear found.0 found.1,
+    )
 
 pub returns-in-None : goal.returns-in-None
 returns-in-None c asks =
     let f = formed (goal.at.returns-in-None c).In_ok-check_jumps asks in
-    let found = c.explore-agree.ensures (explorable f asks.clear asks.cells asks.slots) in
-    (outcome_fails f asks.clear found.0 (landed (goal.at.returns-in-None c).In_ok-check_jumps)
-    (λ a. c.in-Err.ensures.depths_tested a (measurable f asks.clear found.0 a c.requires.1 c.requires.2))
-    c.in-Err.ensures.disagrees c.in-None.ensures (omega arith),
-    left f asks.clear found.0 found.1)
+    let found = c.explore-agree.ensures (explorable f asks.clear asks.cells asks.slots) in (
+      outcome_fails f asks.clear found.0 (landed (goal.at.returns-in-None c).In_ok-check_jumps)
+          (λ a. c.in-Err.ensures.depths_tested a (measurable f asks.clear found.0 a c.requires.1 c.requires.2))
+          c.in-Err.ensures.disagrees c.in-None.ensures (omega arith),
+      left f asks.clear found.0 found.1,
+    )

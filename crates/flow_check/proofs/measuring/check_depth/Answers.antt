@@ -21,10 +21,10 @@ returns-then-held-lt-MIDDLE-clause-number c =
     (depth_outside _ _ _ _ _ _ _ _
     (λ i.
     elim c.then-held-lt-MIDDLE.branch [
-      then-held-lt-MIDDLE-via-then-held-lt-MIDDLE w ↦ omega (arith, i.before_low)
-    | then-held-lt-MIDDLE-via-else-held-lt-MIDDLE+then-held w ↦ omega (arith, i.before_high)
-    | then-held-lt-MIDDLE-via-else-held-lt-MIDDLE+else-held+then-raised-pops w ↦ omega (arith, i.after_low)
-    | then-held-lt-MIDDLE-via-else-held-lt-MIDDLE+else-held+else-raised-pops+then-pops-raised w ↦ omega (arith, i.after_high)
+      | then-held-lt-MIDDLE-via-then-held-lt-MIDDLE w ↦ omega (arith, i.before_low)
+      | then-held-lt-MIDDLE-via-else-held-lt-MIDDLE+then-held w ↦ omega (arith, i.before_high)
+      | then-held-lt-MIDDLE-via-else-held-lt-MIDDLE+else-held+then-raised-pops w ↦ omega (arith, i.after_low)
+      | then-held-lt-MIDDLE-via-else-held-lt-MIDDLE+else-held+else-raised-pops+then-pops-raised w ↦ omega (arith, i.after_high)
     ]))
 
 pub returns-then-held-ne-MIDDLE-clause-number : goal.returns-then-held-ne-MIDDLE-clause-number
@@ -42,9 +42,9 @@ inside c =
       after_high = omega arith;
       ended = λ fall jump.
           elim c.else-row-eq0.branch [
-            else-row-eq0-via-then-row-eq0+then-row-eq0-2+else-held-ne-MIDDLE w ↦ omega arith
-          | else-row-eq0-via-then-row-eq0+else-row-eq0-2 w ↦ absurd (omega arith)
-          | else-row-eq0-via-else-row-eq0 w ↦ absurd (omega arith)
+            | else-row-eq0-via-then-row-eq0+then-row-eq0-2+else-held-ne-MIDDLE w ↦ omega arith
+            | else-row-eq0-via-then-row-eq0+else-row-eq0-2 w ↦ absurd (omega arith)
+            | else-row-eq0-via-else-row-eq0 w ↦ absurd (omega arith)
           ];
     }
 
