@@ -6,5 +6,5 @@ pub returns : goal.returns
 returns c =
     λ h.
     step_goes c.args.image.now c.limits_of-limits.result c.args.before c.args.memory.now c.step-timed.result.stepped _ c.args.after
-    c.args.expected.now c.limits_of-limits.ensures c.step-timed.ensures.memory_value c.in-Made.is
+    c.args.expected.now c.limits_of-limits.ensures c.step-timed.ensures.outcome c.in-Made.is
     (c.same_registers.ensures c.if-not-same_registers.false) (c.same.ensures.0 h)
