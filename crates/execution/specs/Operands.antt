@@ -1,5 +1,5 @@
 -- The operands of an instruction.
-use Rattle.std.specs.Prelude.{ℕ, ◌+◌, List}
+use Rattle.std.specs.Prelude.{ℕ, ◌+◌, List, Option, Some, None}
 use Rattle.stm8.specs.declared.Register.{Register}
 use Rattle.stm8.specs.declared.Register.TheVariants.{X, Y}
 use Rattle.stm8.specs.declared.Offset.{Offset}
@@ -17,6 +17,16 @@ abbrev pub offset_of : Offset → ℕ
 offset_of Zero = 0
 offset_of (Byte n) = n
 offset_of (Word w) = w
+
+-- where an operand lies in memory, if it does
+abbrev pub address_of : Registers → Operand → Option ℕ
+address_of regs Accumulator = None
+address_of regs (Immediate n) = None
+address_of regs (ImmediateWord w) = None
+address_of regs (Short a) = Some a
+address_of regs (Long a) = Some a
+address_of regs (Indexed r f) = Some (index_of regs r + offset_of f)
+address_of regs (Sp f) = Some (regs.sp + f)
 
 -- an operand's byte, and its word; X, Y or SP plus an offset is not cut to 16 bits
 abbrev pub byte_of : List ℕ → List ℕ → Registers → Operand → ℕ

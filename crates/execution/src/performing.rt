@@ -347,9 +347,9 @@ impl Registers {
         i: Instruction,
         next: u32,
     ) -> TimedStep
-        ensures i_value { next < 0x1000000 → sp_trap limits self.sp ≡ 0 →
+        ensures outcome { next < 0x1000000 → sp_trap limits self.sp ≡ 0 →
             performed image.now limits self memory.old next i ≡ (result.stepped, memory.new) }
-        ensures cycles_value { next < 0x1000000 → sp_trap limits self.sp ≡ 0 →
+        ensures cost { next < 0x1000000 → sp_trap limits self.sp ≡ 0 →
             result.cycles ≡ cost_of result.stepped.answer (instruction_cycles image.now memory.old self next i) }
     {
         self.timed(self.perform(image, limits, memory, i, next % 0x1000000))

@@ -27,11 +27,8 @@ impl Registers {
     {
         Computed {
             a: res.value,
-            x: self.x,
-            y: self.y,
             cc: res.cc,
-            stored: 0,
-            taken: false,
+            ..self.unchanged()
         }
     }
 
@@ -40,20 +37,14 @@ impl Registers {
     {
         match r {
             Register::X => Computed {
-                a: self.a,
                 x: res.value,
-                y: self.y,
                 cc: res.cc,
-                stored: 0,
-                taken: false,
+                ..self.unchanged()
             },
             Register::Y => Computed {
-                a: self.a,
-                x: self.x,
                 y: res.value,
                 cc: res.cc,
-                stored: 0,
-                taken: false,
+                ..self.unchanged()
             },
         }
     }
@@ -69,12 +60,9 @@ impl Registers {
         ensures { result ≡ exchanged_of self }
     {
         Computed {
-            a: self.a,
             x: self.y,
             y: self.x,
-            cc: self.cc,
-            stored: 0,
-            taken: false,
+            ..self.unchanged()
         }
     }
 
@@ -82,12 +70,9 @@ impl Registers {
         ensures { result ≡ storing_of self value cc }
     {
         Computed {
-            a: self.a,
-            x: self.x,
-            y: self.y,
             cc,
             stored: value,
-            taken: false,
+            ..self.unchanged()
         }
     }
 
@@ -102,12 +87,9 @@ impl Registers {
         ensures { result ≡ testing_of self taken cc }
     {
         Computed {
-            a: self.a,
-            x: self.x,
-            y: self.y,
             cc,
-            stored: 0,
             taken,
+            ..self.unchanged()
         }
     }
 
@@ -117,12 +99,7 @@ impl Registers {
     {
         match x {
             Operand::Accumulator => self.with_a(res),
-            Operand::Immediate(_) => self.storing(res.value as u16, res.cc),
-            Operand::ImmediateWord(_) => self.storing(res.value as u16, res.cc),
-            Operand::Short(_) => self.storing(res.value as u16, res.cc),
-            Operand::Long(_) => self.storing(res.value as u16, res.cc),
-            Operand::Indexed(_, _) => self.storing(res.value as u16, res.cc),
-            Operand::Sp(_) => self.storing(res.value as u16, res.cc),
+            _ => self.storing(res.value as u16, res.cc),
         }
     }
 }

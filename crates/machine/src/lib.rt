@@ -44,9 +44,9 @@ pub fn run(
     memory: &mut [u8],
     budget: u32,
 ) -> TimedRun
-    ensures memory_value { ran budget image.now limits registers memory.old ≡ (result.ran, memory.new) }
+    ensures outcome { ran budget image.now limits registers memory.old ≡ (result.ran, memory.new) }
     ensures run_numbered { RunNumbered (step_refusal image.now limits memory.old) result.ran.answer }
-    ensures cycles_value { result.cycles ≡ run_cycles budget image.now limits registers memory.old }
+    ensures cost { result.cycles ≡ run_cycles budget image.now limits registers memory.old }
 {
     match stepping::validate(image, limits, memory) {
         Ok(layout) => running::run_valid(registers, image, layout, limits, memory, budget),
@@ -58,24 +58,21 @@ pub fn run(
 fn only_step(ran: Ran) -> Stepped
     ensures { result ≡ only_step ran }
 {
-    let registers = ran.registers;
-    let answer = ran.answer;
-    if ran.steps != 0 {
-        return registers.answer(StepAnswer::Made);
-    }
-    match answer {
-        RunAnswer::Finished => registers.answer(StepAnswer::Finished),
-        RunAnswer::Spent => registers.answer(StepAnswer::Made),
-        RunAnswer::Trap(number) => registers.answer(StepAnswer::Trap(number)),
-        RunAnswer::Refused(number) => registers.answer(StepAnswer::Refused(number)),
-    }
+    let answer = match ran.answer {
+        _ if ran.steps != 0 => StepAnswer::Made,
+        RunAnswer::Finished => StepAnswer::Finished,
+        RunAnswer::Spent => StepAnswer::Made,
+        RunAnswer::Trap(number) => StepAnswer::Trap(number),
+        RunAnswer::Refused(number) => StepAnswer::Refused(number),
+    };
+    ran.registers.answer(answer)
 }
 
 // One step, from any registers and memory: a run of one, so that the run's loop alone holds the code of a step.
 pub fn step(image: &[u8], limits: Limits, registers: Registers, memory: &mut [u8]) -> TimedStep
-    ensures memory_value { stepped image.now limits registers memory.old ≡ (result.stepped, memory.new) }
+    ensures outcome { stepped image.now limits registers memory.old ≡ (result.stepped, memory.new) }
     ensures step_numbered { StepNumbered (step_refusal image.now limits memory.old) result.stepped.answer }
-    ensures cycles_value { result.cycles ≡ step_cycles image.now limits registers memory.old }
+    ensures cost { result.cycles ≡ step_cycles image.now limits registers memory.old }
 {
     let timed = run(image, limits, registers, memory, 1);
     TimedStep {
@@ -91,8 +88,7 @@ pub fn step_number(answer: StepAnswer) -> u8
     match answer {
         StepAnswer::Made => 0,
         StepAnswer::Finished => 64,
-        StepAnswer::Trap(number) => number,
-        StepAnswer::Refused(number) => number,
+        StepAnswer::Trap(number) | StepAnswer::Refused(number) => number,
     }
 }
 
@@ -103,7 +99,6 @@ pub fn run_number(answer: RunAnswer) -> u8
     match answer {
         RunAnswer::Finished => 64,
         RunAnswer::Spent => 65,
-        RunAnswer::Trap(number) => number,
-        RunAnswer::Refused(number) => number,
+        RunAnswer::Trap(number) | RunAnswer::Refused(number) => number,
     }
 }

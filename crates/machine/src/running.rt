@@ -32,8 +32,8 @@ pub(crate) fn run_valid(
 ) -> TimedRun
     requires valid { ValidLayout image.now layout }
     requires passes { step_refusal image.now limits memory.old ≡ 0 }
-    ensures memory_value { ran budget image.now limits given memory.old ≡ (result.ran, memory.new) }
-    ensures cycles_value { result.cycles ≡ run_cycles budget image.now limits given memory.old }
+    ensures outcome { ran budget image.now limits given memory.old ≡ (result.ran, memory.new) }
+    ensures cost { result.cycles ≡ run_cycles budget image.now limits given memory.old }
 {
     let mut registers = given;
     let mut cycles = 0;

@@ -94,9 +94,9 @@ fn step_inside(
     requires valid { ValidLayout image.now layout }
     requires stack { sp_trap limits registers.sp ≡ 0 }
     requires inside { pc_trap image.now registers.pc ≡ 0 }
-    ensures image_value { decoded_step image.now limits registers memory.old
+    ensures outcome { decoded_step image.now limits registers memory.old
         (instruction_in image.now (registers.pc - base_of image.now)) ≡ (result.stepped, memory.new) }
-    ensures cycles_value { result.cycles ≡ cost_of result.stepped.answer (cycles_at image.now registers memory.old) }
+    ensures cost { result.cycles ≡ cost_of result.stepped.answer (cycles_at image.now registers memory.old) }
 {
     let decoded = fetch(image, layout, registers.pc);
     let Ok((i, n)) = decoded else {
@@ -124,8 +124,8 @@ pub(crate) fn step_valid(
     memory: &mut [u8],
 ) -> TimedStep
     requires valid { ValidLayout image.now layout }
-    ensures memory_value { step_valid image.now limits registers memory.old ≡ (result.stepped, memory.new) }
-    ensures cycles_value { result.cycles ≡ cost_of result.stepped.answer (cycles_at image.now registers memory.old) }
+    ensures outcome { step_valid image.now limits registers memory.old ≡ (result.stepped, memory.new) }
+    ensures cost { result.cycles ≡ cost_of result.stepped.answer (cycles_at image.now registers memory.old) }
 {
     if registers.pc == 0 {
         return without_cycles(registers.answer(StepAnswer::Finished));

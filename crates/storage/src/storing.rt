@@ -57,7 +57,8 @@ fn put_on_stack(
     Ok(())
 }
 
-// A store to an operand.
+// A store to an operand. It is put in line: called, it takes a run's registers through memory, and a step 196 instructions for 179.
+#[inline]
 pub fn put_operand(
     limits: Limits,
     memory: &mut [u8],

@@ -18,15 +18,15 @@ returns-in-Err c =
     let refused = refuses c.args.image.now c.args.limits c.args.memory.now _ (sym c.in-Err.ensures) in
     let answered = run_answered c.args.image.now c.args.limits c.args.budget c.args.registers c.args.memory.now c.ended.result.ran c.args.memory.now
     (rw (refused_at_once c.args.budget c.args.image.now c.args.limits c.args.registers c.args.memory.now _ refused, c.ended.ensures, c.number.ensures)) in record {
-      memory_value = answered.0;
+      outcome = answered.0;
       run_numbered = answered.1;
-      cycles_value = rw (c.ended.ensures, none_refused c.args.image.now c.args.limits c.args.registers c.args.memory.now c.args.budget _ refused);
+      cost = rw (c.ended.ensures, none_refused c.args.image.now c.args.limits c.args.registers c.args.memory.now c.args.budget _ refused);
     }
 
 pub returns-in-Ok : goal.returns-in-Ok
 returns-in-Ok c =
-    let answered = run_answered _ _ _ _ _ _ _ c.run_valid.ensures.memory_value in record {
-      memory_value = answered.0;
+    let answered = run_answered _ _ _ _ _ _ _ c.run_valid.ensures.outcome in record {
+      outcome = answered.0;
       run_numbered = answered.1;
-      cycles_value = c.run_valid.ensures.cycles_value;
+      cost = c.run_valid.ensures.cost;
     }

@@ -7,8 +7,8 @@ use Rattle.machine.proofs.step.Goals as goal
 
 pub returns : goal.returns
 returns c =
-    let answered = step_answered _ _ _ _ _ _ (step_by_run _ _ _ _ _ _ _ c.run-timed.ensures.memory_value c.only_step.ensures) in record {
-      memory_value = answered.0;
+    let answered = step_answered _ _ _ _ _ _ (step_by_run _ _ _ _ _ _ _ c.run-timed.ensures.outcome c.only_step.ensures) in record {
+      outcome = answered.0;
       step_numbered = answered.1;
-      cycles_value = c.run-timed.ensures.cycles_value ∙ one_step _ _ _ _;
+      cost = c.run-timed.ensures.cost ∙ one_step _ _ _ _;
     }

@@ -5,10 +5,10 @@ use Rattle.execution.proofs.Registers.step.Goals as goal
 
 pub returns : goal.returns
 returns c = rw c.timed.ensures (record {
-  i_value = (λ small inside.
+  outcome = (λ small inside.
       (apart c.args.image.now c.args.limits c.args.self c.args.memory.now c.args.next _ c.args.i _ _
       (rw (mod-eq_of_lt small) at (c.perform.ensures inside))).is);
-  cycles_value = (λ small inside.
+  cost = (λ small inside.
       (apart c.args.image.now c.args.limits c.args.self c.args.memory.now c.args.next _ c.args.i _ _
       (rw (mod-eq_of_lt small) at (c.perform.ensures inside))).counted);
 })

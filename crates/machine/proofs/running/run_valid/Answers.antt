@@ -13,7 +13,7 @@ use Rattle.machine.proofs.running.run_valid.Goals.{in-Finished, in-Trap, in-Refu
 
 pub overflow_add-cycles : goal.overflow_add-cycles
 overflow_add-cycles c =
-    let made : c.step_valid-timed.result.cycles ≡ cycles_at c.args.image.now c.loop-steps.registers c.loop-steps.memory = c.step_valid-timed.ensures.cycles_value ∙ rw c.in-Made.is in
+    let made : c.step_valid-timed.result.cycles ≡ cycles_at c.args.image.now c.loop-steps.registers c.loop-steps.memory = c.step_valid-timed.ensures.cost ∙ rw c.in-Made.is in
     omega (arith, made, at_most c.args.image.now c.loop-steps.registers c.loop-steps.memory, c.loop-steps.invariant.few, c.loop-steps-test.true, c.ranges.budget.fits)
 
 pub loop-steps-preserved : goal.loop-steps-preserved
@@ -22,20 +22,20 @@ loop-steps-preserved c =
     let rest = c.args.budget - (c.loop-steps.steps + 1) in
     let valid = same_refusal c.args.image.now c.args.limits c.args.memory.now c.loop-steps.memory c.loop-steps.invariant.size ∙ c.requires.passes in
     let one : left ≡ rest + 1 = omega (arith, c.loop-steps-test.true) in
-    let count : c.step_valid-timed.result.cycles ≡ cycles_at c.args.image.now c.loop-steps.registers c.loop-steps.memory = c.step_valid-timed.ensures.cycles_value ∙ rw c.in-Made.is in
-    let on = cycles_on c.args.image.now c.args.limits c.loop-steps.registers c.loop-steps.memory valid left rest one c.step_valid-timed.result.stepped _ c.step_valid-timed.ensures.memory_value c.in-Made.is in
+    let count : c.step_valid-timed.result.cycles ≡ cycles_at c.args.image.now c.loop-steps.registers c.loop-steps.memory = c.step_valid-timed.ensures.cost ∙ rw c.in-Made.is in
+    let on = cycles_on c.args.image.now c.args.limits c.loop-steps.registers c.loop-steps.memory valid left rest one c.step_valid-timed.result.stepped _ c.step_valid-timed.ensures.outcome c.in-Made.is in
     record {
       size = c.step_valid-timed.auto.memory ∙ c.loop-steps.invariant.size;
       run = sym
           (run_on c.args.image.now c.args.limits c.loop-steps.steps c.loop-steps.registers c.loop-steps.memory valid left rest one c.step_valid-timed.result.stepped _
-          c.step_valid-timed.ensures.memory_value c.in-Made.is) ∙
+          c.step_valid-timed.ensures.outcome c.in-Made.is) ∙
           c.loop-steps.invariant.run;
       counted = omega (arith, count, on, c.loop-steps.invariant.counted);
       few = omega (arith, count, c.loop-steps.invariant.few, at_most c.args.image.now c.loop-steps.registers c.loop-steps.memory);
     }
 
-pub returns-in-loop-steps-clause-memory_value : goal.returns-in-loop-steps-clause-memory_value
-returns-in-loop-steps-clause-memory_value c =
+pub returns-in-loop-steps-clause-outcome : goal.returns-in-loop-steps-clause-outcome
+returns-in-loop-steps-clause-outcome c =
     let left = c.args.budget - c.loop-steps.steps in
     let rest = c.args.budget - (c.loop-steps.steps + 1) in
     let valid : step_refusal c.args.image.now c.args.limits c.loop-steps.memory ≡ 0 =
@@ -45,20 +45,20 @@ returns-in-loop-steps-clause-memory_value c =
     elim c.match-timed.branch [
       | in-Finished w ↦
           ends _ _ c.loop-steps.invariant.run
-          (run_finished c.args.image.now c.args.limits c.loop-steps.steps c.loop-steps.registers c.loop-steps.memory valid left rest one s.result.stepped _ s.ensures.memory_value w.in-Finished.is)
+          (run_finished c.args.image.now c.args.limits c.loop-steps.steps c.loop-steps.registers c.loop-steps.memory valid left rest one s.result.stepped _ s.ensures.outcome w.in-Finished.is)
           w.answer-is refl refl
       | in-Trap w ↦
           ends _ _ c.loop-steps.invariant.run
-          (run_trapped c.args.image.now c.args.limits c.loop-steps.steps c.loop-steps.registers c.loop-steps.memory valid left rest one s.result.stepped _ s.ensures.memory_value _ w.in-Trap.is)
+          (run_trapped c.args.image.now c.args.limits c.loop-steps.steps c.loop-steps.registers c.loop-steps.memory valid left rest one s.result.stepped _ s.ensures.outcome _ w.in-Trap.is)
           w.answer-is refl refl
       | in-Refused w ↦
           ends _ _ c.loop-steps.invariant.run
-          (run_refused c.args.image.now c.args.limits c.loop-steps.steps c.loop-steps.registers c.loop-steps.memory valid left rest one s.result.stepped _ s.ensures.memory_value _ w.in-Refused.is)
+          (run_refused c.args.image.now c.args.limits c.loop-steps.steps c.loop-steps.registers c.loop-steps.memory valid left rest one s.result.stepped _ s.ensures.outcome _ w.in-Refused.is)
           w.answer-is refl refl
     ]
 
-pub returns-in-loop-steps-clause-cycles_value : goal.returns-in-loop-steps-clause-cycles_value
-returns-in-loop-steps-clause-cycles_value c =
+pub returns-in-loop-steps-clause-cost : goal.returns-in-loop-steps-clause-cost
+returns-in-loop-steps-clause-cost c =
     let left = c.args.budget - c.loop-steps.steps in
     let rest = c.args.budget - (c.loop-steps.steps + 1) in
     let valid : step_refusal c.args.image.now c.args.limits c.loop-steps.memory ≡ 0 =
@@ -70,9 +70,9 @@ returns-in-loop-steps-clause-cycles_value c =
     c.loop-steps.cycles ≡ run_cycles c.args.budget c.args.image.now c.args.limits c.args.given c.args.memory.now =
     λ none. omega (arith, none, c.loop-steps.invariant.counted) in
     elim c.match-timed.branch [
-      | in-Finished w ↦ all (cycles_finished c.args.image.now c.args.limits c.loop-steps.registers c.loop-steps.memory valid left rest one s.result.stepped _ s.ensures.memory_value w.in-Finished.is)
-      | in-Trap w ↦ all (cycles_trapped c.args.image.now c.args.limits c.loop-steps.registers c.loop-steps.memory valid left rest one s.result.stepped _ s.ensures.memory_value _ w.in-Trap.is)
-      | in-Refused w ↦ all (cycles_refused c.args.image.now c.args.limits c.loop-steps.registers c.loop-steps.memory valid left rest one s.result.stepped _ s.ensures.memory_value _ w.in-Refused.is)
+      | in-Finished w ↦ all (cycles_finished c.args.image.now c.args.limits c.loop-steps.registers c.loop-steps.memory valid left rest one s.result.stepped _ s.ensures.outcome w.in-Finished.is)
+      | in-Trap w ↦ all (cycles_trapped c.args.image.now c.args.limits c.loop-steps.registers c.loop-steps.memory valid left rest one s.result.stepped _ s.ensures.outcome _ w.in-Trap.is)
+      | in-Refused w ↦ all (cycles_refused c.args.image.now c.args.limits c.loop-steps.registers c.loop-steps.memory valid left rest one s.result.stepped _ s.ensures.outcome _ w.in-Refused.is)
     ]
 
 pub returns-then-registers-eq0 : goal.returns-then-registers-eq0
@@ -82,10 +82,10 @@ returns-then-registers-eq0 c =
     let all : c.loop-steps.steps ≡ c.args.budget = omega (arith, c.loop-steps.auto.steps-end, c.loop-steps-test.false) in
     let valid : step_refusal c.args.image.now c.args.limits c.loop-steps.memory ≡ 0 =
     same_refusal c.args.image.now c.args.limits c.args.memory.now c.loop-steps.memory c.loop-steps.invariant.size ∙ c.requires.passes in record {
-      memory_value = ends _ _ c.loop-steps.invariant.run
+      outcome = ends _ _ c.loop-steps.invariant.run
           (out_finished c.args.image.now c.args.limits c.loop-steps.steps c.loop-steps.registers c.loop-steps.memory valid left none c.if-registers-eq0.true) refl refl refl ∙
           ap (λ k. stopped Finished c.loop-steps.registers k c.loop-steps.memory) all;
-      cycles_value = omega (arith, none_left c.args.image.now c.args.limits c.loop-steps.registers c.loop-steps.memory left none, c.loop-steps.invariant.counted);
+      cost = omega (arith, none_left c.args.image.now c.args.limits c.loop-steps.registers c.loop-steps.memory left none, c.loop-steps.invariant.counted);
     }
 
 pub returns-else-registers-eq0 : goal.returns-else-registers-eq0
@@ -95,8 +95,8 @@ returns-else-registers-eq0 c =
     let all : c.loop-steps.steps ≡ c.args.budget = omega (arith, c.loop-steps.auto.steps-end, c.loop-steps-test.false) in
     let valid : step_refusal c.args.image.now c.args.limits c.loop-steps.memory ≡ 0 =
     same_refusal c.args.image.now c.args.limits c.args.memory.now c.loop-steps.memory c.loop-steps.invariant.size ∙ c.requires.passes in record {
-      memory_value = ends _ _ c.loop-steps.invariant.run
+      outcome = ends _ _ c.loop-steps.invariant.run
           (out_spent c.args.image.now c.args.limits c.loop-steps.steps c.loop-steps.registers c.loop-steps.memory valid left none c.if-registers-eq0.false) refl refl refl ∙
           ap (λ k. stopped Spent c.loop-steps.registers k c.loop-steps.memory) all;
-      cycles_value = omega (arith, none_left c.args.image.now c.args.limits c.loop-steps.registers c.loop-steps.memory left none, c.loop-steps.invariant.counted);
+      cost = omega (arith, none_left c.args.image.now c.args.limits c.loop-steps.registers c.loop-steps.memory left none, c.loop-steps.invariant.counted);
     }

@@ -9,14 +9,14 @@ use Rattle.machine.proofs.stepping.step_inside.Goals as goal
 
 pub returns-in_default : goal.returns-in_default
 returns-in_default c = record {
-  image_value = rw (
+  outcome = rw (
     ap (decoded_step c.args.image.now c.args.limits c.args.registers c.args.memory.now) (sym c.fetch-decoded.ensures) ∙
         undecoded c.args.image.now c.args.limits c.args.registers c.args.memory.now c.in_default.is,
     c.without_cycles.ensures,
     c.answer.ensures,
     c.decoding_trap.ensures,
   );
-  cycles_value = rw (c.without_cycles.ensures, c.answer.ensures);
+  cost = rw (c.without_cycles.ensures, c.answer.ensures);
 }
 
 pub returns : goal.returns
@@ -24,11 +24,11 @@ returns c =
     let stands = sym c.fetch-decoded.ensures ∙ c.in-Ok.is in
     -- an instruction has at most five bytes
     let next = next_small c.args.image.now c.args.layout c.requires.valid c.args.registers.pc c.requires.inside _ (found_short c.args.image.now _ _ stands) in record {
-      image_value = ap (decoded_step c.args.image.now c.args.limits c.args.registers c.args.memory.now) stands ∙
+      outcome = ap (decoded_step c.args.image.now c.args.limits c.args.registers c.args.memory.now) stands ∙
           found c.args.image.now c.args.limits c.args.registers c.args.memory.now _ _ ∙
-          c.step.ensures.i_value next c.requires.stack;
-      cycles_value = rw (at_found c.args.image.now c.args.registers c.args.memory.now _ _ stands)
-          (c.step.ensures.cycles_value next c.requires.stack);
+          c.step.ensures.outcome next c.requires.stack;
+      cost = rw (at_found c.args.image.now c.args.registers c.args.memory.now _ _ stands)
+          (c.step.ensures.cost next c.requires.stack);
     }
 
 pub overflow_cast-n : goal.overflow_cast-n

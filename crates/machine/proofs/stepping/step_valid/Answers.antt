@@ -9,24 +9,24 @@ use Rattle.machine.proofs.stepping.step_valid.Goals as goal
 
 pub returns-then-registers-eq0 : goal.returns-then-registers-eq0
 returns-then-registers-eq0 c = record {
-  memory_value = rw (
+  outcome = rw (
     finished c.args.image.now c.args.limits c.args.registers c.args.memory.now (eq-eqb _ _ c.if-registers-eq0.true),
     c.without_cycles.ensures,
     c.answer.ensures,
   );
-  cycles_value = rw (c.without_cycles.ensures, c.answer.ensures);
+  cost = rw (c.without_cycles.ensures, c.answer.ensures);
 }
 
 pub returns-in-Err : goal.returns-in-Err
 returns-in-Err c =
     let found = sym (ap number_of c.in-Err.is) ∙ c.early_trap.ensures c.args.image.now c.requires.valid.is in record {
-      memory_value = rw (
+      outcome = rw (
         trapped_early c.args.image.now c.args.limits c.args.registers c.args.memory.now (ne_eqb _ _ c.if-registers-eq0.false) _ found (trap_some c.in-Err.trap),
         c.without_cycles-in-Err.ensures,
         c.answer-in-Err.ensures,
         c.from.ensures,
       );
-      cycles_value = rw (c.without_cycles-in-Err.ensures, c.answer-in-Err.ensures);
+      cost = rw (c.without_cycles-in-Err.ensures, c.answer-in-Err.ensures);
     }
 
 pub step_inside-requires : goal.step_inside-requires
@@ -37,6 +37,6 @@ step_inside-requires c =
 pub returns : goal.returns
 returns c =
     let none = sym (ap number_of c.in_default.is) ∙ c.early_trap.ensures c.args.image.now c.requires.valid.is in record {
-      memory_value = decodes c.args.image.now c.args.limits c.args.registers c.args.memory.now (ne_eqb _ _ c.if-registers-eq0.false) _ none refl ∙ c.step_inside.ensures.image_value;
-      cycles_value = c.step_inside.ensures.cycles_value;
+      outcome = decodes c.args.image.now c.args.limits c.args.registers c.args.memory.now (ne_eqb _ _ c.if-registers-eq0.false) _ none refl ∙ c.step_inside.ensures.outcome;
+      cost = c.step_inside.ensures.cost;
     }
