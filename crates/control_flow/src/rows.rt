@@ -26,5 +26,13 @@ impl Model for Row {
 
 impl Row {
     // A row of no instruction.
-    pub const NONE: Row = Row { start: 0, fall: 0, jump: 0, pops: 0, pushes: 0, store: 0, call: 0 };
+    pub const NONE: Row = Row {
+        start: 0,
+        fall: 0,
+        jump: 0,
+        pops: 0,
+        pushes: 0,
+        store: 0,
+        call: 0,
+    };
 }

@@ -28,12 +28,7 @@ fn off_end(end: usize, next: usize, flow: Flow) -> bool
 }
 
 // One start: 8 or 9, then 15, else its cells, and where the next start is.
-fn decode_start(
-    code: &[u8],
-    begins: &[u16; 32],
-    r: Routine,
-    at: usize,
-) -> Result<Decoding, Refusal>
+fn decode_start(code: &[u8], begins: &[u16; 32], r: Routine, at: usize) -> Result<Decoding, Refusal>
     requires { Small r at }
     ensures ahead { IfOk result (λ d. (at < d.next) × (d.next ≤ r.end)) }
     ensures decoded { (image : List ℕ) → Given image code.now begins.now r → Start image r.index at →

@@ -16,6 +16,6 @@ pub returns-else-index-lt31 : goal.returns-else-index-lt31
 returns-else-index-lt31 c image limits valid told below =
     last_ends image limits _ _ valid below
     (elim c.else-index-lt31.branch [
-      else-index-lt31-via-then-index-lt31+else-index-layout w ↦ omega (arith, w.if-index-layout.false)
-    | else-index-lt31-via-else-index-lt31 w ↦ omega (arith, w.if-index-lt31.false, (valid_bounds image limits _ valid).count.1)
+      | else-index-lt31-via-then-index-lt31+else-index-layout w ↦ omega (arith, w.if-index-layout.false)
+      | else-index-lt31-via-else-index-lt31 w ↦ omega (arith, w.if-index-lt31.false, (valid_bounds image limits _ valid).count.1)
     ])

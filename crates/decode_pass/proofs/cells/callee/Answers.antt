@@ -9,8 +9,8 @@ use Rattle.decode_pass.proofs.cells.callee.Goals.{then-r-gt32-via-then-r-gt32, t
 pub returns-then-r-gt32-clause-found : goal.returns-then-r-gt32-clause-found
 returns-then-r-gt32-clause-found c image few e begins =
     elim c.then-r-gt32.branch [
-      then-r-gt32-via-then-r-gt32 w ↦ absurd (omega arith)
-    | then-r-gt32-via-else-r-gt32+then-address-base w ↦ sym (callee_below image _ _ _ e (omega arith))
+      | then-r-gt32-via-then-r-gt32 w ↦ absurd (omega arith)
+      | then-r-gt32-via-else-r-gt32+then-address-base w ↦ sym (callee_below image _ _ _ e (omega arith))
     ]
 
 pub returns-clause-found : goal.returns-clause-found
