@@ -2,6 +2,7 @@
 #![tactic(auto)]
 
 mod sweep;
+mod valid;
 
 ghost use Rattle.std.specs.Prelude.{◌≡◌, ℕ, ◌≤◌, length};
 ghost use Rattle.image.specs.Image.{count_of};
@@ -17,6 +18,7 @@ use crate::sweep::{Sweep, sweep_routines};
 use image::{Layout, Limits, measure};
 pub use rules::{Acceptance, Refusal, Verdict};
 pub use sweep::routine_at;
+pub use valid::ValidImage;
 
 // What is said of what the sweep found; 16 comes last.
 fn verdict_of(
@@ -57,19 +59,13 @@ fn clear_refused(v: Verdict, marks: &mut [u16])
 }
 
 // The sweep of a valid image's code, over as many marks as it has bytes.
-fn check_code(
-    image: &[u8],
-    limits: Limits,
-    layout: Layout,
-    begins: &[u16; 32],
-    marks: &mut [u16],
-) -> Verdict
-    requires { (validated image.now limits ≡ Valid layout) × Begins image.now begins.now layout.count × (length marks.old ≡ layout.size) }
-    ensures { CodeOutcome image.now limits result marks.new }
+fn check_code(valid: ValidImage, marks: &mut [u16]) -> Verdict
+    requires { length marks.old ≡ valid.layout.size }
+    ensures { CodeOutcome valid.entry.image.now valid.entry.limits result marks.new }
 {
     marks.fill(0);
-    let swept = sweep_routines(image, limits, layout, begins, marks);
-    let v = verdict_of(limits, layout, swept);
+    let swept = sweep_routines(valid, marks);
+    let v = verdict_of(valid.limits, valid.layout, swept);
     clear_refused(v, marks);
     v
 }
@@ -89,7 +85,13 @@ fn check_valid(
     if marks.len() < size {
         return Err(Refusal::of_rule(5));
     }
-    check_code(image, limits, layout, begins, &mut marks[..size])
+    let valid = ValidImage {
+        image,
+        limits,
+        layout,
+        begins,
+    };
+    check_code(valid, &mut marks[..size])
 }
 
 // A verdict, and where the routines of an accepted image begin.

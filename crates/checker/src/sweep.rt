@@ -11,6 +11,7 @@ ghost use Rattle.acceptance.specs.Passed.{RoutineChecked, RoutinesPassed};
 ghost use Rattle.decode_pass.specs.Pass.{RoutineOf};
 ghost use Rattle.checker.specs.Internal.{Clean, Swept, Small};
 
+use crate::valid::ValidImage;
 use control_flow::{Refusal, Row};
 use decode_pass::{Routine, decode_routine};
 use flow_check::{Measured, Trail, check_flow};
@@ -95,16 +96,9 @@ fn check_routine(
 
 // Every routine in table order, so that a callee's need is there before its callers', to the first refusal. The arrays by code offset are cleared
 // once for the whole code.
-pub(crate) fn sweep_routines(
-    image: &[u8],
-    limits: Limits,
-    layout: Layout,
-    begins: &[u16; 32],
-    marks: &mut [u16],
-) -> Result<Sweep, Refusal>
-    requires { (validated image.now limits ≡ Valid layout) × Begins image.now begins.now layout.count
-        × (marks.old ≡ replicate (size_of image.now) 0) }
-    ensures swept { Swept image.now limits marks.new result }
+pub(crate) fn sweep_routines(valid: ValidImage, marks: &mut [u16]) -> Result<Sweep, Refusal>
+    requires { marks.old ≡ replicate (size_of valid.image.now) 0 }
+    ensures swept { Swept valid.entry.image.now valid.entry.limits marks.new result }
     ensures small { Small result }
 {
     let mut work = Workspace {
@@ -119,9 +113,9 @@ pub(crate) fn sweep_routines(
         needs: [0; 32],
     };
     let mut start = 0;
-    for index in 0..layout.count {
-        let r = routine_at(limits, layout, begins, index, start);
-        let measured = check_routine(image, begins, r, &done, &mut work, marks)?;
+    for index in 0..valid.layout.count {
+        let r = routine_at(valid.limits, valid.layout, valid.begins, index, start);
+        let measured = check_routine(valid.image, valid.begins, r, &done, &mut work, marks)?;
         done.needs[index] = measured.need as u16;
         done.count = measured.count;
         start = r.end;

@@ -2,11 +2,10 @@
 // routine, no depth and no offset are those of the definitions of acceptance, which the check by cells compares as numbers.
 ghost use Rattle.std.specs.Prelude.{◌≡◌, List, ℕ, ◌+◌, ◌<◌, ◌≤◌, IfSome, unwrap_or};
 ghost use Rattle.stm8.specs.Effects.{relative as relative_to};
-ghost use Rattle.image.specs.Image.{base_of};
+ghost use Rattle.image.specs.Image.{base_of, start_of, end_of};
 ghost use Rattle.image.specs.Lengths.{Begins};
 ghost use Rattle.rules.specs.Paths.{callee as callee_of};
 ghost use Rattle.acceptance.specs.Cells.{fall_cell, target_cell, jump_cell, store_cell, callee_cell, call_cell};
-ghost use Rattle.image.specs.Image.{start_of, end_of};
 ghost use Rattle.decode_pass.specs.Pass.{RoutineOf};
 ghost use Rattle.decode_pass.specs.Internal.{Room, row_of};
 

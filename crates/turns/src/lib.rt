@@ -14,6 +14,7 @@ ghost use Rattle.turns.specs.Values.{values_of as values_in, TurnNumbered};
 
 use crate::summing::sum_main;
 use checker::check_begins;
+use checker::{ValidImage, Verdict, check_begins};
 use image::{Layout, Limits, base_of, code_at, count_of, version_of};
 
 // What is worked out for an image: refused as the check refuses it, with number and offset; no turn, where some jump goes to its own or a lower
@@ -39,10 +40,9 @@ pub struct TurnValues {
 fn over_or_within(turn: u64) -> TurnAnswer
     ensures { result ≡ over_or_within turn }
 {
-    if 4294967295 < turn {
-        TurnAnswer::Over
-    } else {
-        TurnAnswer::Within(turn as u32)
+    match u32::try_from(turn) {
+        Ok(turn) => TurnAnswer::Within(turn),
+        Err(_) => TurnAnswer::Over,
     }
 }
 
@@ -67,7 +67,13 @@ fn answer(image: &[u8], limits: Limits, begins: &[u16; 32]) -> TurnAnswer
     ensures { result ≡ answer_of image.now }
 {
     let layout = layout_of(image);
-    match sum_main(image, limits, layout, begins) {
+    let valid = ValidImage {
+        image,
+        limits,
+        layout,
+        begins,
+    };
+    match sum_main(valid) {
         Some(turn) => over_or_within(turn),
         None => TurnAnswer::NoTurn,
     }
@@ -87,7 +93,7 @@ pub fn turn(image: &[u8], limits: Limits, marks: &mut [u16]) -> TurnAnswer
     }
 }
 
-// The numbers of an answer.
+// The numbers of an answer. It is a function with this contract, which the documents name, and no `From`.
 pub fn values_of(answer: TurnAnswer) -> TurnValues
     ensures { result ≡ values_in answer }
 {

@@ -8,12 +8,13 @@ ghost use Rattle.decode_pass.specs.Pass.{RoutineOf, Given};
 ghost use Rattle.turns.specs.Turn.{goes_back, callee_turn};
 ghost use Rattle.turns.specs.Internal.{held as held_of, HeldIn, Fit, CountedAt, RoutineSum, MainSum};
 
-use checker::routine_at;
+use checker::{ValidImage, routine_at};
 use code::decode_at;
 use decode_pass::{Routine, callee};
 use effects::{effect_of, relative};
 use image::{Layout, Limits};
 use stm8::Flow;
+use stm8::{Decoded, Flow};
 
 // What stands at an offset, where it jumps to no address that is its own or lower: its turn, and the offset behind it.
 #[derive(Clone, Copy)]
@@ -110,22 +111,16 @@ fn sum_routine(code: &[u8], begins: &[u16; 32], turns: &[u64; 32], r: Routine) -
 }
 
 // The sum over main, the last routine, after those over the routines before it; none where one of them jumps back.
-pub(crate) fn sum_main(
-    image: &[u8],
-    limits: Limits,
-    layout: Layout,
-    begins: &[u16; 32],
-) -> Option<u64>
-    requires { (validated image.now limits ≡ Valid layout) × Begins image.now begins.now layout.count }
-    ensures { MainSum image.now result }
+pub(crate) fn sum_main(valid: ValidImage) -> Option<u64>
+    ensures { MainSum valid.entry.image.now result }
 {
-    let code = layout.code;
+    let code = &valid.image[valid.layout.code..];
     let mut turns = [0u64; 32];
     let mut turn = 0;
     let mut start = 0;
-    for index in 0..layout.count {
-        let r = routine_at(limits, layout, begins, index, start);
-        turn = sum_routine(&image[code..], begins, &turns, r)?;
+    for index in 0..valid.layout.count {
+        let r = routine_at(valid.limits, valid.layout, valid.begins, index, start);
+        turn = sum_routine(code, valid.begins, &turns, r)?;
         turns[index] = turn;
         start = r.end;
     }

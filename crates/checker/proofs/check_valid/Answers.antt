@@ -12,7 +12,7 @@ returns-then-marks-size c =
     few c.requires.0 (omega (arith, size_is _ _ _ c.requires.0, c.if-marks-size.true))
 
 pub check_code-requires : goal.check_code-requires
-check_code-requires c = (c.requires.0, c.requires.1, length-take-le _ _ c.if-marks-size.false)
+check_code-requires c = length-take-le _ _ c.if-marks-size.false
 
 pub returns : goal.returns
 returns c =

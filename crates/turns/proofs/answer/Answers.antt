@@ -3,9 +3,9 @@ use Rattle.image.specs.Image.{layout_of}
 use Rattle.turns.proofs.Answers.{answer_none, answer_some}
 use Rattle.turns.proofs.answer.Goals as goal
 
-pub sum_main-requires : goal.sum_main-requires
+pub invariant_of-valid : goal.invariant_of-valid
 unfolding layout_of
-sum_main-requires c = rw c.layout_of-layout.ensures (c.requires.1, c.requires.2)
+invariant_of-valid c = rw c.layout_of-layout.ensures (record { valid = c.requires.1; routines_begin = c.requires.2 })
 
 pub returns-in-Some : goal.returns-in-Some
 returns-in-Some c = answer_some _ c.in-Some.ensures c.over_or_within.ensures

@@ -6,4 +6,4 @@ use Rattle.checker.proofs.sweep.sweep_routines.Given as goal
 
 abbrev pub invariant-loop-index : goal.invariant-loop-index
 invariant-loop-index l =
-    Between l.image l.limits l.marks l.done l.index l.start × Clean l.start l.work
+    Between l.fn.valid.image.now l.fn.valid.limits l.marks l.done l.index l.start × Clean l.start l.work

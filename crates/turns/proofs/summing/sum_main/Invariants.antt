@@ -3,4 +3,4 @@ use Rattle.turns.proofs.TurnLists.{Between}
 use Rattle.turns.proofs.summing.sum_main.Given as goal
 
 abbrev pub invariant-loop-index : goal.invariant-loop-index
-invariant-loop-index l = Between l.image l.turns l.turn l.start l.index
+invariant-loop-index l = Between l.fn.valid.image.now l.turns l.turn l.start l.index
