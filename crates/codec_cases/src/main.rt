@@ -7,7 +7,7 @@ use code::lengths_of;
 use cycles::Timed;
 use std::io;
 use std::io::Write;
-use stm8::{AluOp, BitOp, BitTest, Decoded, Instruction, ModifyOp, Offset, Operand, Register};
+use stm8::{AluOp, BitOp, BitTest, DecodeError, Decoded, Instruction, ModifyOp, Offset, Operand, Register};
 use timing::{decode_timed, decode_timed_at, decode_timed_by, decode_timed_for};
 
 fn print_number(out: &mut impl Write, label: &[u8], number: u64) -> io::Result<()> {
@@ -41,9 +41,9 @@ fn encode(out: &mut impl Write, label: &[u8], i: Instruction) -> io::Result<()> 
 
 fn print_decoded(out: &mut impl Write, d: Decoded) -> io::Result<()> {
     match d {
-        Decoded::Found(_, n) => print_number(out, b"0, length ", n as u64),
-        Decoded::Outside => print_number(out, b"", 8),
-        Decoded::Truncated => print_number(out, b"", 9),
+        Ok((_, n)) => print_number(out, b"0, length ", n as u64),
+        Err(DecodeError::Outside) => print_number(out, b"", 8),
+        Err(DecodeError::Truncated) => print_number(out, b"", 9),
     }
 }
 

@@ -7,7 +7,7 @@ use disassembly::{LONGEST, Written};
 use notation::hex_digit;
 use std::io;
 use std::io::Write;
-use stm8::{Cycles, Decoded, Instruction};
+use stm8::{Cycles, Instruction};
 use timing::decode_timed;
 
 const ADDRESS: u16 = 0x8000;
@@ -38,8 +38,7 @@ fn print_text(out: &mut impl Write, i: Instruction) -> io::Result<()> {
 
 // The line of an op-code after its pre-code's text. An op-code outside the set has none.
 fn line(out: &mut impl Write, pre_code: &[u8], op: u8, timed: Timed) -> io::Result<()> {
-    let decoded = timed.decoded;
-    let Decoded::Found(i, _) = decoded else {
+    let Ok((i, _)) = timed.decoded else {
         return Ok(());
     };
     print(out, pre_code)?;

@@ -14,6 +14,7 @@ use Rattle.stm8.specs.Effects.{effect}
 use Rattle.stm8.specs.declared.Instruction.{Instruction}
 use Rattle.stm8.specs.declared.Effect.{Effect}
 use Rattle.stm8.specs.declared.Flow.{Flow}
+use Rattle.stm8.specs.declared.DecodeError.{DecodeError}
 use Rattle.stm8.specs.declared.DecodeError.TheVariants.{Outside, Truncated}
 use Rattle.image.specs.Image.{end_of}
 use Rattle.code.specs.Depth.{falls}
@@ -45,14 +46,13 @@ pub start_below : {image : List ℕ} {r : Routine} {at : ℕ} → RoutineOf imag
 start_below {image} {r} routine s =
     omega (arith, start_high image r.index (omega (arith, routine.some, routine.start_is, routine.end_is)) s, routine.end_is)
 
--- a decoder's answer that is no instruction
-abbrev pub NoInstruction : Decoded → Type 0
-NoInstruction d = (i : Instruction) (n : ℕ) → d ≡ Ok (i, n) → ⊥
-
-pub number_some : (d : Decoded) {number : ℕ} → NoInstruction d → number ≡ decoding_number d → 1 ≤ number
-number_some (Ok (i, n)) none e = absurd (none i n refl)
-number_some (Err Outside) none e = omega arith
-number_some (Err Truncated) none e = omega arith
+-- where no instruction is found the number is a refusal's
+pub number_some : {d : Decoded} {error : DecodeError} {number : ℕ} → d ≡ Err error → number ≡ decoding_number d → 1 ≤ number
+number_some {error = error} none number_is = some error (number_is ∙ ap decoding_number none)
+  where
+    some : (error : DecodeError) {number : ℕ} → number ≡ decoding_number (Err error) → 1 ≤ number
+    some Outside e = omega arith
+    some Truncated e = omega arith
 
 -- what is decoded up to the routine's end is what stands at the offset
 pub decoded_there : {image code begins : List ℕ} {r : Routine} {d : Decoded} (at : ℕ) → Given image code begins r → d ≡ decoded_at image r.end at →
@@ -61,14 +61,14 @@ decoded_there {image} at given is = is ∙ ap (λ n. decoded_at image n at) give
 
 -- the three ways through a start, with each value as a variable
 module _ {image : List ℕ} {r : Routine} {at : ℕ} (start : Start image r.index at) where
-  undecoded : {next : ℕ} {row : List ℕ} (d : Decoded) → instruction_at image r.index at ≡ d → NoInstruction d → StartDecoded image r at (decoding_number d) next row
-  undecoded (Ok (i, n)) e none = absurd (none i n refl)
-  undecoded (Err Outside) e none = faulty (outside start e)
-  undecoded (Err Truncated) e none = faulty (cut start e)
+  undecoded : {next : ℕ} {row : List ℕ} (error : DecodeError) → instruction_at image r.index at ≡ Err error →
+      StartDecoded image r at (decoding_number (Err error)) next row
+  undecoded Outside e = faulty (outside start e)
+  undecoded Truncated e = faulty (cut start e)
 
-  pub start_undecoded : {number next : ℕ} {row : List ℕ} (d : Decoded) → d ≡ instruction_at image r.index at → NoInstruction d → number ≡ decoding_number d →
-      StartDecoded image r at number next row
-  start_undecoded d e none number_is = rw number_is (undecoded d (sym e) none)
+  pub start_undecoded : {number next : ℕ} {row : List ℕ} {d : Decoded} {error : DecodeError} → d ≡ instruction_at image r.index at → d ≡ Err error →
+      number ≡ decoding_number d → StartDecoded image r at number next row
+  start_undecoded e none number_is = rw (number_is, none) (undecoded _ (sym e ∙ none))
 
   module _ (routine : RoutineOf image r) {i : Instruction} {n : ℕ} {e : Effect} {past : Bool}
       (found : instruction_at image r.index at ≡ Ok (i, n)) (effect_is : e ≡ effect i) (ends : OffEnd r.end (at + n) e.flow past) where

@@ -9,7 +9,7 @@ use crate::{Refusal, Routine};
 use code::{decode_at, falls};
 use decoder::decoding_number;
 use effects::effect_of;
-use stm8::{Decoded, Flow};
+use stm8::Flow;
 
 // What one start gives: the refusal's number, or 0, the offset after its instruction and its cells.
 #[derive(Clone, Copy)]
@@ -46,7 +46,7 @@ fn decode_start(code: &[u8], begins: &[u16; 32], r: Routine, at: usize) -> Decod
         StartDecoded image r at result.refusal result.next result.row }
 {
     let d = decode_at(r.version, code, at, r.end);
-    let Decoded::Found(i, n) = d else {
+    let Ok((i, n)) = d else {
         return refused_start(decoding_number(d));
     };
     let e = effect_of(i);

@@ -8,7 +8,7 @@ use hexadecimal::parse;
 use slices::find;
 use std::num::wrapping_add_u64;
 use std::{fs, io};
-use stm8::{Decoded, Instruction};
+use stm8::Instruction;
 
 const ADDRESS: u16 = 0x8000;
 
@@ -43,7 +43,7 @@ fn bytes_differ(i: Instruction, code: Code) -> bool {
 // How many of the three, length, text and bytes, are not as a line says.
 fn differences(text: &[u8], code: Code) -> u64 {
     let bytes = code.bytes;
-    let Decoded::Found(i, n) = decoder::decode(&bytes) else {
+    let Ok((i, n)) = decoder::decode(&bytes) else {
         return 3;
     };
     let sizes = wrapping_add_u64((n != code.length) as u64, text_differs(i, text) as u64);

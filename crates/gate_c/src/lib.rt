@@ -324,23 +324,15 @@ fn put_text(found: Decoded, address: u16, text: &mut [u8; 24])
     ensures { text.new ≡ text_cells address found }
 {
     *text = [0u8; 24];
-    match found {
-        Decoded::Found(i, _) => {
-            disassemble(i, address, &mut text[..]);
-        }
-        Decoded::Outside => {}
-        Decoded::Truncated => {}
+    if let Ok((i, _)) = found {
+        disassemble(i, address, &mut text[..]);
     }
 }
 
 fn decoded_length(found: Decoded) -> usize
     ensures { result ≡ decoded_length found }
 {
-    match found {
-        Decoded::Found(_, n) => n,
-        Decoded::Outside => 0,
-        Decoded::Truncated => 0,
-    }
+    found.map_or(0, |(_, n)| n)
 }
 
 // Decodes the instruction at the front of bytes, with its text as it stands at an address, and its cycles.

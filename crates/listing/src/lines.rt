@@ -15,7 +15,6 @@ use crate::writing::{push, push_bytes, push_decimal, push_text, push_word};
 use code::decode_at;
 use image::{base_of, code_at, version_of};
 use rules::Verdict;
-use stm8::Decoded;
 
 // A word and two numbers.
 fn write_figures(buffer: &mut [u8], word: &[u8], a: u16, b: u16) -> usize
@@ -70,11 +69,9 @@ fn push_decoded(
 {
     let code = code_at(image);
     let version = version_of(image);
-    let d = decode_at(version, &image[code..], offset, size);
-    match d {
-        Decoded::Found(i, _) => push_text(buffer, at, address, i),
-        Decoded::Outside => at,
-        Decoded::Truncated => at,
+    match decode_at(version, &image[code..], offset, size) {
+        Ok((i, _)) => push_text(buffer, at, address, i),
+        Err(_) => at,
     }
 }
 

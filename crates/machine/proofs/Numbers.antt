@@ -13,6 +13,7 @@ use Rattle.numbers.specs.Folds.{first_in}
 use Rattle.numbers.proofs.Checking.{by_test}
 use Rattle.numbers.proofs.Numbering.{Numbered, pass, fails, not_zero, tested, ◌then◌, under_numbered, unless_numbered, differ_numbered}
 use Rattle.stm8.specs.Decoding.{Decoded}
+use Rattle.stm8.specs.declared.DecodeError.TheVariants.{Outside, Truncated}
 use Rattle.stm8.specs.Effects.{bytes_wide, effect, is_call}
 use Rattle.stm8.specs.declared.Place.{Place}
 use Rattle.stm8.specs.declared.Place.TheVariants.{Nowhere, Direct, OnStack, Pushed}
@@ -114,7 +115,8 @@ module _ (image : List ℕ) (limits : Limits) (regs : Registers) (memory : List 
 
   decoded_unrefused : (d : Decoded) → Unrefused (decoded_step image limits regs memory d)
   unfolding decoded_step performed made
-  decoded_unrefused (Err e) = (omega arith, omega arith)
+  decoded_unrefused (Err Outside) = (omega arith, omega arith)
+  decoded_unrefused (Err Truncated) = (omega arith, omega arith)
   decoded_unrefused (Ok (i, n)) =
       by_test Unrefused (eqb (effect_trap limits regs.sp (regs.pc + n) (effect i)) 0)
       (λ t. tt)

@@ -15,6 +15,7 @@ use Rattle.stm8.specs.Decoding.{Decoded}
 use Rattle.stm8.specs.Effects.{effect}
 use Rattle.stm8.specs.declared.Effect.{Effect}
 use Rattle.stm8.specs.declared.Instruction.{Instruction}
+use Rattle.stm8.specs.declared.DecodeError.{DecodeError}
 use Rattle.image.specs.declared.Limits.{Limits}
 use Rattle.image.specs.declared.Layout.{Layout}
 use Rattle.image.specs.declared.Validated.TheVariants as Validated
@@ -73,12 +74,10 @@ module _ (image : List ℕ) (limits : Limits) (regs : Registers) (memory : List 
   makes i n none = rw none
 
 -- what gives no instruction
-pub undecoded : (image : List ℕ) (limits : Limits) (regs : Registers) (memory : List ℕ) (d : Decoded) →
-    ((i : Instruction) (n : ℕ) → d ≡ Ok (i, n) → ⊥) →
+pub undecoded : (image : List ℕ) (limits : Limits) (regs : Registers) (memory : List ℕ) {d : Decoded} {error : DecodeError} → d ≡ Err error →
     decoded_step image limits regs memory d ≡ result (Trap (decoding_trap d)) regs memory
 unfolding decoded_step
-undecoded image limits regs memory (Ok (i, n)) h = absurd (h i n refl)
-undecoded image limits regs memory (Err e) h = refl
+undecoded image limits regs memory none = rw none
 
 -- what validation answers
 module _ (image : List ℕ) (limits : Limits) (memory : List ℕ) where

@@ -14,7 +14,7 @@ use crate::{Registers, StepAnswer, Stepped, TimedStep};
 use code::decode_at;
 use image::{Layout, Limits, Validated};
 use numbers::checks::first;
-use stm8::Decoded;
+use stm8::{DecodeError, Decoded};
 
 // 17, memory not 32,768 bytes, then 1 to 4.
 pub(crate) fn validate(image: &[u8], limits: Limits, memory: &[u8]) -> Validated
@@ -46,9 +46,9 @@ fn decoding_trap(decoded: Decoded) -> u8
     ensures { result ≡ decoding_trap decoded }
 {
     match decoded {
-        Decoded::Found(_, _) => 0,
-        Decoded::Outside => 23,
-        Decoded::Truncated => 22,
+        Ok(_) => 0,
+        Err(DecodeError::Outside) => 23,
+        Err(DecodeError::Truncated) => 22,
     }
 }
 
@@ -75,7 +75,7 @@ fn step_inside(
     ensures cycles_value { result.cycles ≡ cost_of result.stepped.answer (cycles_at image.now registers memory.old) }
 {
     let decoded = fetch(image, layout, registers.pc);
-    let Decoded::Found(i, n) = decoded else {
+    let Ok((i, n)) = decoded else {
         return without_cycles(registers.answer(StepAnswer::Trap(decoding_trap(decoded))));
     };
     registers.step(image, limits, memory, i, registers.pc + n as u32)

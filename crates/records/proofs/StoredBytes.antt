@@ -12,6 +12,7 @@ use Rattle.stm8.specs.declared.Place.{Place}
 use Rattle.stm8.specs.declared.Place.TheVariants.{Nowhere, Direct, OnStack, Pushed}
 use Rattle.stm8.specs.declared.Effect.{Effect}
 use Rattle.stm8.specs.declared.Instruction.{Instruction}
+use Rattle.stm8.specs.declared.DecodeError.{DecodeError}
 use Rattle.image.specs.declared.Limits.{Limits}
 use Rattle.image.specs.Image.{base_of, code_at, size_of, layout_of}
 use Rattle.image.specs.Rules.{ImageRules}
@@ -65,12 +66,8 @@ module _ (regs : Registers) (memory : List ℕ) (r : Record) (d d' : Decoded) (s
       r ≡ record_of regs memory (stored_by regs.sp d')
   by_effect e i n is effects found = rw (← same, found, ← effects) is
 
-  pub by_none : ((i : Instruction) (n : ℕ) → d ≡ Ok (i, n) → ⊥) → r ≡ record_of regs memory [] → r ≡ record_of regs memory (stored_by regs.sp d')
-  by_none other is = is ∙ ap (record_of regs memory) (sym (stored d other) ∙ ap (stored_by regs.sp) same)
-    where
-      stored : (d : Decoded) → ((i : Instruction) (n : ℕ) → d ≡ Ok (i, n) → ⊥) → stored_by regs.sp d ≡ []
-      stored (Ok (i, n)) other = absurd (other i n refl)
-      stored (Err e) other = refl
+  pub by_none : {error : DecodeError} → d ≡ Err error → r ≡ record_of regs memory [] → r ≡ record_of regs memory (stored_by regs.sp d')
+  by_none none is = rw (← same, none) is
 
 -- a step is made of an image that follows the rules alone
 made_image : (image : List ℕ) (limits : Limits) (regs : Registers) (memory : List ℕ) → (stepped image limits regs memory).0.answer ≡ Made → ImageRules image

@@ -13,7 +13,7 @@ use effects::effect_of;
 use image::{base_of, code_at, version_of};
 use machine::{Registers, StepAnswer};
 use numbers::words::byte_at;
-use stm8::{Decoded, Effect, Place, Width};
+use stm8::{DecodeError, Decoded, Effect, Place, Width};
 
 // A record of no bytes.
 fn without_bytes(registers: Registers) -> Record
@@ -93,7 +93,7 @@ fn fetch(image: &[u8], pc: u32) -> Decoded
 {
     let code = code_at(image);
     if image.len() < code {
-        return Decoded::Truncated;
+        return Err(DecodeError::Truncated);
     }
     let size = image.len() - code;
     decode_at(
@@ -109,11 +109,10 @@ pub(crate) fn record_at(image: &[u8], registers: Registers, memory: &[u8]) -> Re
     ensures { ImageRules image.now → result ≡ record_of registers memory.now
         (stored_by registers.sp (instruction_in image.now (registers.pc - base_of image.now))) }
 {
-    let decoded = fetch(image, registers.pc);
-    let Decoded::Found(i, _) = decoded else {
-        return without_bytes(registers);
-    };
-    record_by(registers, memory, effect_of(i))
+    match fetch(image, registers.pc) {
+        Ok((i, _)) => record_by(registers, memory, effect_of(i)),
+        Err(_) => without_bytes(registers),
+    }
 }
 
 // The record of a step by its answer: only one that was made has overwritten anything.

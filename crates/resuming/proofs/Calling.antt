@@ -6,9 +6,9 @@ use borrow.Author.Tests.{eq-eqb, ne_eqb}
 use Rattle.std.specs.Prelude.{Ok, Err}
 use Rattle.stm8.specs.Decoding.{Decoded}
 use Rattle.stm8.specs.Effects.{call_target, effect}
+use Rattle.stm8.specs.declared.DecodeError.{DecodeError}
 use Rattle.stm8.specs.declared.Flow.TheVariants.{Branch, Jump}
 use Rattle.stm8.specs.declared.Instruction.{Instruction}
-use Rattle.decode_pass.proofs.DecodePass.{NoInstruction}
 use Rattle.resuming.specs.Internal.{calls_to, is_call_to}
 
 -- a jump is no call, whether it falls through or not
@@ -18,9 +18,8 @@ jump_calls_nobody true next n address = refl
 jump_calls_nobody false next n address = refl
 
 module _ (base o next address : ℕ) (x : Decoded) where
-  pub call_none : (d : Decoded) → d ≡ x → NoInstruction d → false ≡ is_call_to base o next address x
-  call_none (Ok (i, n)) e k = absurd (k i n refl)
-  call_none (Err error) e k = rw (← e)
+  pub call_none : {error : DecodeError} → x ≡ Err error → false ≡ is_call_to base o next address x
+  call_none none = rw none
 
   module _ {i : Instruction} {n : ℕ} (found : x ≡ Ok (i, n)) where
     pub call_elsewhere : (o + n ≡ next → ⊥) → false ≡ is_call_to base o next address x

@@ -13,7 +13,7 @@ use effects::relative;
 use gate::Limits;
 use image::{base_of, begin_at, code_at, count_of, version_of};
 use numbers::words::word_at;
-use stm8::{Decoded, Instruction};
+use stm8::Instruction;
 
 // Whether there is a call, and the offset where it stands.
 #[derive(Clone, Copy)]
@@ -72,14 +72,10 @@ fn is_call(image: &[u8], at: usize, next: usize, address: usize) -> bool
     ensures { result ≡ is_call_to (base_of image.now) at next address (instruction_in image.now at) }
 {
     let code = code_at(image);
-    let d = decode_at(version_of(image), &image[code..], at, image.len() - code);
-    let Decoded::Found(i, n) = d else {
+    let Ok((i, n)) = decode_at(version_of(image), &image[code..], at, image.len() - code) else {
         return false;
     };
-    if at + n != next {
-        return false;
-    }
-    calls((base_of(image) as usize + next) as u32, i, address)
+    at + n == next && calls((base_of(image) as usize + next) as u32, i, address)
 }
 
 // The nearest marked offset below k, or 0.

@@ -10,12 +10,12 @@ use Rattle.numbers.specs.Folds.{total}
 use Rattle.stm8.specs.Decoding.{Decoded}
 use Rattle.stm8.specs.Effects.{jump_target, call_target, effect}
 use Rattle.stm8.specs.declared.Instruction.{Instruction}
+use Rattle.stm8.specs.declared.DecodeError.{DecodeError}
 use Rattle.stm8.specs.declared.Effect.{Effect}
 use Rattle.image.specs.Image.{base_of, start_of, end_of}
 use Rattle.code.specs.Code.{instruction_at}
 use Rattle.code.specs.Instructions.{found_size, Located, located_at}
 use Rattle.code.proofs.Remaining.{instructions_from, from_start, from_end, from_found, from_none}
-use Rattle.decode_pass.proofs.DecodePass.{NoInstruction}
 use Rattle.turns.specs.Turn.{goes_back, jumps_back, some_in, routine_jumps_back, callee_turn, instruction_turn, turn_after}
 use Rattle.turns.specs.Internal.{held, CountedAt, one, nothing}
 use Rattle.turns.specs.declared.summing.Counted.{Counted}
@@ -23,10 +23,9 @@ use Rattle.turns.proofs.Holding.{held_low, held_sum, held_more}
 
 -- what one start counts, with each value as a variable
 module _ {image turns : List ℕ} {r at : ℕ} where
-  pub count_none : {end : ℕ} (d : Decoded) → d ≡ instruction_at image r at → NoInstruction d → end ≡ end_of image r →
+  pub count_none : {end : ℕ} {error : DecodeError} → instruction_at image r at ≡ Err error → end ≡ end_of image r →
       CountedAt image turns r at (record { turn = 0; back = false; next = end })
-  count_none (Ok (i, n)) e none end_is = absurd (none i n refl)
-  count_none (Err error) e none end_is = nothing (rw (← e)) (rw (← e)) refl refl end_is
+  count_none none end_is = nothing (rw none) (rw none) refl refl end_is
 
   pub count_one : {i : Instruction} {n base t : ℕ} {e : Effect} {back : Bool} → instruction_at image r at ≡ Ok (i, n) → e ≡ effect i →
       base ≡ base_of image → t ≡ held (callee_turn image turns r (call_target (base + at + n) e.flow)) →

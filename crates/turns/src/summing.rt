@@ -13,7 +13,7 @@ use code::decode_at;
 use decode_pass::{Routine, callee};
 use effects::{effect_of, relative};
 use image::{Layout, Limits};
-use stm8::{Decoded, Flow};
+use stm8::Flow;
 
 // What stands at an offset: its turn, whether it jumps to its own or a lower address, and the offset behind it.
 #[derive(Clone, Copy)]
@@ -75,8 +75,7 @@ fn count_at(code: &[u8], begins: &[u16; 32], turns: &[u64; 32], r: Routine, at: 
     ensures by_index { (image before : List ℕ) → Given image code.now begins.now r → HeldIn turns.now before →
         CountedAt image before r.index at result }
 {
-    let d = decode_at(r.version, code, at, r.end);
-    let Decoded::Found(i, n) = d else {
+    let Ok((i, n)) = decode_at(r.version, code, at, r.end) else {
         return Counted {
             turn: 0,
             back: false,

@@ -8,7 +8,7 @@ use Rattle.disassembly.proofs.Placing.{text_placed}
 use Rattle.disassembly.specs.declared.Written.{Written}
 use Rattle.gate_c.proofs.put_text.Goals as goal
 
-pub returns-in-Found : goal.returns-in-Found
-returns-in-Found c =
-    rw c.in-Found.is
+pub returns-in-Ok : goal.returns-in-Ok
+returns-in-Ok c =
+    rw c.in-Ok.is
     (ap (λ (x : Written × List ℕ). x.1) (c.disassemble.ensures ∙ text_placed _ _ (replicate 24 0) (lit≤ tt)))

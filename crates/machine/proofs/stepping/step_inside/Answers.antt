@@ -11,7 +11,7 @@ pub returns-in_default : goal.returns-in_default
 returns-in_default c = record {
   image_value = rw (
     ap (decoded_step c.args.image.now c.args.limits c.args.registers c.args.memory.now) (sym c.fetch-decoded.ensures) ∙
-        undecoded c.args.image.now c.args.limits c.args.registers c.args.memory.now c.fetch-decoded.result c.in_default.not-Found,
+        undecoded c.args.image.now c.args.limits c.args.registers c.args.memory.now c.in_default.is,
     c.without_cycles.ensures,
     c.answer.ensures,
     c.decoding_trap.ensures,
@@ -21,7 +21,7 @@ returns-in_default c = record {
 
 pub returns : goal.returns
 returns c =
-    let stands = sym c.fetch-decoded.ensures ∙ c.in-Found.is in
+    let stands = sym c.fetch-decoded.ensures ∙ c.in-Ok.is in
     -- an instruction has at most five bytes
     let next = next_small c.args.image.now c.args.layout c.requires.valid c.args.registers.pc c.requires.inside _ (found_short c.args.image.now _ _ stands) in record {
       image_value = ap (decoded_step c.args.image.now c.args.limits c.args.registers c.args.memory.now) stands ∙
@@ -32,7 +32,7 @@ returns c =
     }
 
 pub overflow_cast-n : goal.overflow_cast-n
-overflow_cast-n c = omega (arith, found_short c.args.image.now _ _ (sym c.fetch-decoded.ensures ∙ c.in-Found.is))
+overflow_cast-n c = omega (arith, found_short c.args.image.now _ _ (sym c.fetch-decoded.ensures ∙ c.in-Ok.is))
 
 pub overflow_add-registers : goal.overflow_add-registers
-overflow_add-registers c = omega (arith, next_small c.args.image.now c.args.layout c.requires.valid c.args.registers.pc c.requires.inside _ (found_short c.args.image.now _ _ (sym c.fetch-decoded.ensures ∙ c.in-Found.is)))
+overflow_add-registers c = omega (arith, next_small c.args.image.now c.args.layout c.requires.valid c.args.registers.pc c.requires.inside _ (found_short c.args.image.now _ _ (sym c.fetch-decoded.ensures ∙ c.in-Ok.is)))

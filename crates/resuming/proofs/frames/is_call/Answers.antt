@@ -3,6 +3,7 @@ use Prim.Native.Nat.{ℕ, ◌-◌}
 use mathlib.Core.Path.{◌≡◌, sym, ap, ◌∙◌}
 use native.Mathlib.Omega.{arith}
 use mathlib.Core.List.{List}
+use borrow.Author.Tests.{ne_eqb}
 use lib.ListN.{length, take, drop}
 use Rattle.stm8.specs.Decoding.{Decoded}
 use Rattle.image.specs.Image.{code_at, code_of, size_of, version_of}
@@ -24,15 +25,18 @@ answer image at layout is version_is told =
     told image version_is (code_cut image _ is) ∙ ap (λ n. decoded_at image n at) (size_is image layout is)
 
 pub returns-in_default : goal.returns-in_default
-returns-in_default c = call_none _ _ _ _ _ _ (answer c.args.image.now c.args.at c.requires.0 c.code_at-code.ensures.value c.version_of.ensures c.decode_at-d.ensures.by_index) c.in_default.not-Found
+returns-in_default c =
+    call_none _ _ _ _ _
+    (sym (answer c.args.image.now c.args.at c.requires.0 c.code_at-code.ensures.value c.version_of.ensures c.decode_at.ensures.by_index) ∙ c.in_default.is)
 
-pub overflow_add-at : goal.overflow_add-at
-overflow_add-at c = omega (arith, (c.decode_at-d.ensures.n_nonzero _ _ c.in-Found.is).1, size_is c.args.image.now c.requires.0 c.code_at-code.ensures.value, c.requires.0.code)
+pub returns-else-at-n : goal.returns-else-at-n
+returns-else-at-n c =
+    ne_eqb _ _ c.if-at-n.false ∙ call_elsewhere _ _ _ _ _
+    (sym (answer c.args.image.now c.args.at c.requires.0 c.code_at-code.ensures.value c.version_of.ensures c.decode_at.ensures.by_index) ∙ c.in-Ok.is)
+    c.if-at-n.false
 
 pub returns-then-at-n : goal.returns-then-at-n
-returns-then-at-n c = call_elsewhere _ _ _ _ _ (sym (answer c.args.image.now c.args.at c.requires.0 c.code_at-code.ensures.value c.version_of.ensures c.decode_at-d.ensures.by_index) ∙ c.in-Found.is) c.if-at-n.true
-
-pub returns : goal.returns
-returns c =
-    call_here _ _ _ _ _ (sym (answer c.args.image.now c.args.at c.requires.0 c.code_at-code.ensures.value c.version_of.ensures c.decode_at-d.ensures.by_index) ∙ c.in-Found.is) c.if-at-n.false c.base_of.ensures
-    c.calls.ensures
+returns-then-at-n c =
+    call_here _ _ _ _ _
+    (sym (answer c.args.image.now c.args.at c.requires.0 c.code_at-code.ensures.value c.version_of.ensures c.decode_at.ensures.by_index) ∙ c.in-Ok.is)
+    c.if-at-n.true c.base_of.ensures c.calls.ensures
