@@ -13,8 +13,7 @@ use code::decode_at;
 use decode_pass::{Routine, callee};
 use effects::{effect_of, relative};
 use image::{Layout, Limits};
-use stm8::Flow;
-use stm8::{Decoded, Flow};
+use stm8::{Decoded, Flow, Flow};
 
 // What stands at an offset, where it jumps to no address that is its own or lower: its turn, and the offset behind it.
 #[derive(Clone, Copy)]
