@@ -2,7 +2,6 @@
 // its bytes in hexadecimal, with the instruction at 8000.
 #![tactic(auto)]
 
-use console::read_full;
 use disassembly::LONGEST;
 use hexadecimal::parse;
 use std::{fs, io};

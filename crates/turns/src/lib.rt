@@ -13,7 +13,7 @@ ghost use Rattle.turns.specs.Turn.{over_or_within, answer_of, turned};
 ghost use Rattle.turns.specs.Values.{values_of as values_in, TurnNumbered};
 
 use crate::summing::sum_main;
-use checker::{ValidImage, Verdict, check_begins, check_begins};
+use checker::{ValidImage, check_begins};
 use image::{Layout, Limits, base_of, code_at, count_of, version_of};
 
 // What is worked out for an image: refused as the check refuses it, with number and offset; no turn, where some jump goes to its own or a lower

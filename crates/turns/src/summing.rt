@@ -2,8 +2,6 @@
 ghost use Rattle.std.specs.Prelude.{◌≡◌, List, ℕ, ◌≤◌, ◌<◌, IfSome};
 ghost use Rattle.stm8.specs.Effects.{jump_target, call_target};
 ghost use Rattle.image.specs.Lengths.{Begins};
-ghost use Rattle.image.specs.Validation.{validated};
-ghost use Rattle.image.specs.Validated.{Valid};
 ghost use Rattle.decode_pass.specs.Pass.{RoutineOf, Given};
 ghost use Rattle.turns.specs.Turn.{goes_back, callee_turn};
 ghost use Rattle.turns.specs.Internal.{held as held_of, HeldIn, Fit, CountedAt, RoutineSum, MainSum};
@@ -12,8 +10,7 @@ use checker::{ValidImage, routine_at};
 use code::decode_at;
 use decode_pass::{Routine, callee};
 use effects::{effect_of, relative};
-use image::{Layout, Limits};
-use stm8::{Decoded, Flow, Flow};
+use stm8::Flow;
 
 // What stands at an offset, where it jumps to no address that is its own or lower: its turn, and the offset behind it.
 #[derive(Clone, Copy)]
