@@ -31,6 +31,7 @@ pub struct Computed {
     pub taken: bool,
 }
 
+// A trap and a refusal are their numbers: definitions and theorems name them so.
 #[derive(Clone, Copy)]
 pub enum StepAnswer {
     Made,

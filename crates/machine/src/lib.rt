@@ -14,6 +14,7 @@ ghost use Rattle.machine.specs.Internal.{only_step};
 pub use execution::{Registers, StepAnswer, Stepped, TimedStep};
 use image::Limits;
 
+// A trap and a refusal are their numbers: definitions and theorems name them so.
 #[derive(Clone, Copy)]
 pub enum RunAnswer {
     Finished,
