@@ -2,7 +2,7 @@
 ghost use Rattle.std.specs.Prelude.{◌≡◌};
 ghost use Rattle.image.specs.Lengths.{Begins};
 ghost use Rattle.image.specs.Validation.{validated};
-ghost use Rattle.image.specs.declared.Validated.TheVariants.{Valid};
+ghost use Rattle.image.specs.Validated.{Valid};
 
 use image::{Layout, Limits};
 
