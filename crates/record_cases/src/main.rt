@@ -2,31 +2,63 @@
 // standard input anew, with what a step with its record and giving it back come to. No contract speaks of what is printed.
 #![tactic(auto)]
 
-ghost use Rattle.std.specs.Prelude.{◌≡◌, ◌≤◌, length};
+ghost use Rattle.std.specs.Prelude.{◌≡◌, cond, ◌≤◌, length};
 ghost use Rattle.records.specs.Back.{stepped_back};
 ghost use Rattle.record_cases.specs.Case.{record_in};
 
+use console::read_full;
+use hexadecimal::parse;
 use image::limits_of;
-use machine::step_number;
+use machine::{Registers, step_number};
 use numbers::words::{byte_at, word_at};
 use records::{Record, step, step_back};
-use replay::print_cases;
+use slices::find;
 use std::io;
 use std::io::Write;
-use vectors::{CellText, CellsText, RegistersText, long_at, put_cells, registers_of};
+use vectors::{byte_text, long_at, put_cells, registers_of, registers_text, word_text};
 
-// Memory before and after calls, of the size that a case asks for.
-const MOST: usize = 32769;
+fn print(out: &mut impl Write, text: &[u8]) -> io::Result<()> {
+    out.write_all(text)
+}
+
+fn print_number(out: &mut impl Write, name: &[u8], number: u64) -> io::Result<()> {
+    print(out, name)?;
+    write!(out, "{number}")
+}
+
+fn print_registers(out: &mut impl Write, r: Registers) -> io::Result<()> {
+    print(out, b": ")?;
+    print(out, &registers_text(r))
+}
+
+fn print_cell(out: &mut impl Write, address: u16, byte: u8) -> io::Result<()> {
+    print(out, b", ")?;
+    print(out, &word_text(address))?;
+    print(out, b" ")?;
+    print(out, &byte_text(byte))
+}
+
+// The bytes of memory at the addresses of cells.
+fn print_cells(out: &mut impl Write, memory: &[u8], cells: &[u8]) -> io::Result<()> {
+    let mut at = 0;
+    while at + 2 < cells.len() {
+        let address = word_at(cells, at);
+        print_cell(out, address, byte_at(memory, address as usize))?;
+        at += 3;
+    }
+    Ok(())
+}
 
 // The bytes of a step's record, whose addresses have 16 bits.
 fn print_bytes(out: &mut impl Write, r: Record) -> io::Result<()> {
-    write!(out, ", bytes {}", r.count)?;
-    for (address, byte) in r.addresses.iter().zip(&r.values).take(r.count as usize) {
-        let cell = CellText {
-            address: (*address % 65536) as u16,
-            byte: *byte,
-        };
-        write!(out, ", {cell}")?;
+    let addresses = r.addresses;
+    let values = r.values;
+    print_number(out, b", bytes ", r.count as u64)?;
+    if r.count > 0 {
+        print_cell(out, (addresses[0] % 65536) as u16, values[0])?;
+    }
+    if r.count > 1 {
+        print_cell(out, (addresses[1] % 65536) as u16, values[1])?;
     }
     Ok(())
 }
@@ -55,15 +87,11 @@ fn give_back(
     ensures { memory.new ≡ (stepped_back given memory.old).1 }
 {
     let back = step_back(given, memory);
-    let registers = RegistersText(back.registers);
-    write!(
-        out,
-        "back {}: {registers}{}",
-        back.number,
-        CellsText { memory, cells }
-    )?;
+    print_number(out, b"back ", back.number as u64)?;
+    print_registers(out, back.registers)?;
+    print_cells(out, memory, cells)?;
     if check::same(memory, first) {
-        write!(out, ", as at first")?;
+        print(out, b", as at first")?;
     }
     Ok(())
 }
@@ -83,12 +111,15 @@ fn step_case(
     let cells = &case[end..];
     put_cells(memory, cells);
     put_cells(first, cells);
-    let recorded = step(image, limits_of(case), registers_of(&case[14..25]), memory);
-    write!(out, "step {}", step_number(recorded.stepped.answer))?;
-    print_bytes(out, recorded.record)?;
-    let registers = RegistersText(recorded.stepped.registers);
-    write!(out, ": {registers}{}; ", CellsText { memory, cells })?;
-    give_back(out, recorded.record, memory, first, cells)
+    let s = step(image, limits_of(case), registers_of(&case[14..25]), memory);
+    let stepped = s.stepped;
+    let answer = stepped.answer;
+    print_number(out, b"step ", step_number(answer) as u64)?;
+    print_bytes(out, s.record)?;
+    print_registers(out, stepped.registers)?;
+    print_cells(out, memory, cells)?;
+    print(out, b"; ")?;
+    give_back(out, s.record, memory, first, cells)
 }
 
 // A record made by hand.
@@ -107,23 +138,71 @@ fn hand_case(
     give_back(out, record_of(case), memory, first, cells)
 }
 
-// The answer of a case, on a memory of zeros of its size, which stands behind the limits where there are any. One that is cut short has none.
-fn print_answer(out: &mut impl Write, kind: &[u8], case: &[u8]) -> io::Result<()> {
-    let mut memory = [0u8; MOST];
-    let mut first = [0u8; MOST];
-    let recorded = matches!(kind, b"record");
-    let size = word_at(case, if recorded { 12 } else { 0 }) as usize;
-    if MOST < size {
-        return Ok(());
-    }
+// The answer of a case. One that is cut short has none.
+fn print_answer(
+    out: &mut impl Write,
+    recorded: bool,
+    case: &[u8],
+    memory: &mut [u8],
+    first: &mut [u8],
+) -> io::Result<()> {
     if recorded {
-        step_case(out, case, &mut memory[..size], &mut first[..size])
+        step_case(out, case, memory, first)
     } else {
-        hand_case(out, case, &mut memory[..size], &mut first[..size])
+        hand_case(out, case, memory, first)
     }
 }
 
+// Where the size of memory stands: a step has its limits before that.
+fn size_at(recorded: bool) -> usize
+    ensures { result ≡ cond recorded 12 0 }
+{
+    if recorded { 12 } else { 0 }
+}
+
+// The case of a line's kind and digits, from the colon on, on a memory of zeros of its size.
+fn case(out: &mut impl Write, text: &[u8]) -> io::Result<()> {
+    let mut bytes = [0u8; 128];
+    let mut memory = [0u8; 32769];
+    let mut first = [0u8; 32769];
+    let recorded = byte_at(text, 2) == b'r';
+    let n = parse(text, &mut bytes);
+    let size = word_at(&bytes, size_at(recorded)) as usize;
+    if size <= 32769 {
+        print_answer(
+            out,
+            recorded,
+            &bytes[..n],
+            &mut memory[..size],
+            &mut first[..size],
+        )?;
+    }
+    Ok(())
+}
+
+// The line of a case anew: up to its answer as it stands, then the answer that it gets here.
+fn print_case(out: &mut impl Write, line: &[u8]) -> io::Result<()> {
+    let colon = find(line, 0, line.len(), b':');
+    let equals = find(line, colon, line.len(), b'=');
+    print(out, &line[..equals])?;
+    print(out, b"= ")?;
+    case(out, &line[colon..equals])?;
+    print(out, b"\n")
+}
+
+// Each line of a text.
+fn print_cases(out: &mut impl Write, text: &[u8]) -> io::Result<()> {
+    let mut at = 0;
+    while at < text.len() {
+        let end = find(text, at, text.len(), b'\n');
+        print_case(out, &text[at..end])?;
+        at = end + 1;
+    }
+    Ok(())
+}
+
 fn main(rt: HostRuntime) -> io::Result<()> {
-    let text = io::read_to_string(rt.alloc(), rt.stdin())?;
-    print_cases(&mut rt.stdout(), text.as_str(), print_answer)
+    let mut text = [0u8; 65536];
+    let n = read_full(&mut rt.stdin(), &mut text)?;
+    print_cases(&mut rt.stdout(), &text[..n])
 }

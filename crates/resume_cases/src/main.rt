@@ -5,14 +5,59 @@
 ghost use Rattle.std.specs.Prelude.{◌≡◌, ◌+◌, ◌≤◌, length, get_or};
 ghost use Rattle.resume_cases.specs.Case.{steps_in, saved_of, ResumesCase};
 
+use console::read_full;
+use hexadecimal::parse;
 use image::limits_of;
 use numbers::words::{byte_at, word_at};
-use replay::print_cases;
 use resuming::{ResumeAnswer, Resumed, resume};
 use saved_state::{Saved, save};
+use slices::find;
 use std::io;
 use std::io::Write;
-use vectors::{CellsText, MarksText, RegistersText, long_at, put_cells, registers_of};
+use vectors::{byte_text, long_at, put_cells, registers_of, registers_text, word_text};
+
+fn print(out: &mut impl Write, text: &[u8]) -> io::Result<()> {
+    out.write_all(text)
+}
+
+fn print_number(out: &mut impl Write, name: &[u8], number: u64) -> io::Result<()> {
+    print(out, name)?;
+    write!(out, "{number}")
+}
+
+fn print_cell(out: &mut impl Write, address: u16, byte: u8) -> io::Result<()> {
+    print(out, b", ")?;
+    print(out, &word_text(address))?;
+    print(out, b" ")?;
+    print(out, &byte_text(byte))
+}
+
+// The bytes of memory at the addresses of cells.
+fn print_cells(out: &mut impl Write, memory: &[u8], cells: &[u8]) -> io::Result<()> {
+    let mut at = 0;
+    while at + 2 < cells.len() {
+        let address = word_at(cells, at);
+        print_cell(out, address, byte_at(memory, address as usize))?;
+        at += 3;
+    }
+    Ok(())
+}
+
+fn print_marks(out: &mut impl Write, marks: &[u16]) -> io::Result<()> {
+    print(out, b", marks")?;
+    for &mark in marks {
+        print_number(out, b" ", mark as u64)?;
+    }
+    Ok(())
+}
+
+// The bytes of a saved state.
+fn print_bytes(out: &mut impl Write, bytes: &[u8]) -> io::Result<()> {
+    for &byte in bytes {
+        print(out, &byte_text(byte))?;
+    }
+    Ok(())
+}
 
 // The steps of a case that saves: 64 bits, high byte first.
 fn steps_of(case: &[u8]) -> u64
@@ -35,22 +80,24 @@ fn save_case(out: &mut impl Write, case: &[u8]) -> io::Result<()> {
         return Ok(());
     }
     let saved = saved_of(case);
+    let bytes = saved.bytes;
     if saved.number == 0 {
-        write!(out, "saved ")?;
+        print(out, b"saved ")?;
     } else {
-        write!(out, "refused {}, ", saved.number)?;
+        print_number(out, b"refused ", saved.number as u64)?;
+        print(out, b", ")?;
     }
-    for byte in saved.bytes {
-        write!(out, "{byte:02X}")?;
-    }
-    Ok(())
+    print_bytes(out, &bytes)
 }
 
 fn print_resume_answer(out: &mut impl Write, answer: ResumeAnswer) -> io::Result<()> {
     match answer {
-        ResumeAnswer::Finished => write!(out, "finished"),
-        ResumeAnswer::Spent => write!(out, "spent"),
-        ResumeAnswer::Refused(number, offset) => write!(out, "refused {number} {offset}"),
+        ResumeAnswer::Finished => print(out, b"finished"),
+        ResumeAnswer::Spent => print(out, b"spent"),
+        ResumeAnswer::Refused(number, offset) => {
+            print_number(out, b"refused ", number as u64)?;
+            print_number(out, b" ", offset as u64)
+        }
     }
 }
 
@@ -92,29 +139,56 @@ fn resume_case(
     let cells = &case[end..];
     put_cells(memory, cells);
     let resumed = resumed_of(case, budget, &case[from..end], marks, memory);
-    print_resume_answer(out, resumed.answer)?;
-    write!(out, " after {}, cycles {}", resumed.steps, resumed.cycles)?;
-    let registers = RegistersText(resumed.registers);
-    write!(out, ": {registers}{}", CellsText { memory, cells })?;
-    write!(out, "{}", MarksText(marks))
+    let answer = resumed.answer;
+    print_resume_answer(out, answer)?;
+    print_number(out, b" after ", resumed.steps)?;
+    print_number(out, b", cycles ", resumed.cycles)?;
+    print(out, b": ")?;
+    print(out, &registers_text(resumed.registers))?;
+    print_cells(out, memory, cells)?;
+    print_marks(out, marks)
 }
 
-// The answer of a case. One that resumes has a memory of zeros of its size, and marks of nines.
-fn print_answer(out: &mut impl Write, kind: &[u8], case: &[u8]) -> io::Result<()> {
-    if matches!(kind, b"save") {
-        return save_case(out, case);
-    }
+// The case of a line's kind and digits, from the colon on. One that resumes has a memory of zeros of its size, and marks of nines.
+fn case(out: &mut impl Write, text: &[u8]) -> io::Result<()> {
+    let mut bytes = [0u8; 512];
     let mut marks = [9u16; 256];
     let mut memory = [0u8; 32769];
-    let lent = byte_at(case, 12) as usize;
-    let size = word_at(case, 13) as usize;
-    if memory.len() < size {
-        return Ok(());
+    let n = parse(text, &mut bytes);
+    if byte_at(text, 2) == b's' {
+        return save_case(out, &bytes[..n]);
     }
-    resume_case(out, case, &mut marks[..lent], &mut memory[..size])
+    let lent = byte_at(&bytes, 12) as usize;
+    let size = word_at(&bytes, 13) as usize;
+    if size <= 32769 {
+        return resume_case(out, &bytes[..n], &mut marks[..lent], &mut memory[..size]);
+    }
+    Ok(())
+}
+
+// The line of a case anew: up to its answer as it stands, then the answer that it gets here.
+fn print_case(out: &mut impl Write, line: &[u8]) -> io::Result<()> {
+    let colon = find(line, 0, line.len(), b':');
+    let equals = find(line, colon, line.len(), b'=');
+    print(out, &line[..equals])?;
+    print(out, b"= ")?;
+    case(out, &line[colon..equals])?;
+    print(out, b"\n")
+}
+
+// Each line of a text.
+fn print_cases(out: &mut impl Write, text: &[u8]) -> io::Result<()> {
+    let mut at = 0;
+    while at < text.len() {
+        let end = find(text, at, text.len(), b'\n');
+        print_case(out, &text[at..end])?;
+        at = end + 1;
+    }
+    Ok(())
 }
 
 fn main(rt: HostRuntime) -> io::Result<()> {
-    let text = io::read_to_string(rt.alloc(), rt.stdin())?;
-    print_cases(&mut rt.stdout(), text.as_str(), print_answer)
+    let mut text = [0u8; 65536];
+    let n = read_full(&mut rt.stdin(), &mut text)?;
+    print_cases(&mut rt.stdout(), &text[..n])
 }

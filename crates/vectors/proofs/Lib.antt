@@ -1,2 +1,1 @@
 pub mod Cells
-pub mod Hexadecimal

@@ -1,13 +1,15 @@
 // Registers and memory: as bytes, in the form in which recorded steps and written cases give them, and as text, in which cases print them.
 #![tactic(auto)]
 
-ghost use Rattle.std.specs.Prelude.{◌≡◌, Some};
+ghost use Rattle.std.specs.Prelude.{◌≡◌, ◌≤◌};
+ghost use Rattle.std.proofs.lemmas.List.Edits.{sets};
+ghost use Rattle.notation.specs.Notation.{byte_digits, word_digits};
 ghost use Rattle.vectors.specs.Bytes.{long_at, registers_of, with_cells};
-ghost use Rattle.vectors.specs.Text.{registers_text, cell_text, cells_text, marks_text};
+ghost use Rattle.vectors.specs.Text.{registers_text};
 
 use machine::Registers;
-use numbers::words::{byte_at, put_byte, word, word_at};
-use std::fmt;
+use notation::hex_digit;
+use numbers::words::{byte_at, high, low, put_byte, word_at};
 
 // A number of 32 bits, high byte first; a byte past the end counts as 0.
 pub fn long_at(bytes: &[u8], at: usize) -> u32
@@ -38,87 +40,63 @@ pub fn registers_of(bytes: &[u8]) -> Registers
 pub fn put_cells(memory: &mut [u8], cells: &[u8])
     ensures { memory.new ≡ with_cells memory.old cells.now }
 {
-    let mut rest = cells;
-    while let [high, low, byte, others @ ..] = rest {
-        put_byte(memory, word(*high, *low) as usize, *byte);
-        rest = others;
+    let mut at = 0;
+    while at + 2 < cells.len() {
+        let address = word_at(cells, at) as usize;
+        put_byte(memory, address, byte_at(cells, at + 2));
+        at += 3;
     }
 }
 
-/// Registers as text, each by its name; PC by the 24 bits that document 01 gives it.
-#[derive(Clone, Copy)]
-pub struct RegistersText(pub Registers);
-
-impl fmt::Display for RegistersText {
-    ghost output = { λ t. Some (registers_text t.0) };
-
-    fn fmt<W: fmt::Write>(&self, f: &mut fmt::Formatter<W>) -> fmt::Result {
-        let Registers {
-            a,
-            x,
-            y,
-            cc,
-            sp,
-            pc,
-        } = self.0;
-        let (bank, offset) = (pc / 65536 % 256, pc % 65536);
-        write!(
-            f,
-            "A {a:02X} X {x:04X} Y {y:04X} CC {cc:02X} SP {sp:04X} PC {bank:02X}{offset:04X}"
-        )
-    }
+// The two hexadecimal digits of a byte.
+pub fn byte_text(n: u8) -> [u8; 2]
+    ensures { result ≡ byte_digits n }
+{
+    [hex_digit(n / 16), hex_digit(n)]
 }
 
-/// A memory cell as text: its address and the byte there.
-#[derive(Clone, Copy)]
-pub struct CellText {
-    pub address: u16,
-    pub byte: u8,
+// The four of a word.
+pub fn word_text(w: u16) -> [u8; 4]
+    ensures { result ≡ word_digits w }
+{
+    let h = high(w);
+    let l = low(w);
+    [
+        hex_digit(h / 16),
+        hex_digit(h),
+        hex_digit(l / 16),
+        hex_digit(l),
+    ]
 }
 
-impl fmt::Display for CellText {
-    ghost output = { λ c. Some (cell_text c.address c.byte) };
-
-    fn fmt<W: fmt::Write>(&self, f: &mut fmt::Formatter<W>) -> fmt::Result {
-        let CellText { address, byte } = *self;
-        write!(f, "{address:04X} {byte:02X}")
-    }
+fn put_byte_digits(text: &mut [u8], at: usize, n: u8)
+    requires { at ≤ 40 }
+    ensures { text.new ≡ sets text.old at (byte_digits n) }
+{
+    put_byte(text, at, hex_digit(n / 16));
+    put_byte(text, at + 1, hex_digit(n));
 }
 
-/// The bytes of memory at the addresses of cells, each as text after a comma.
-#[derive(Clone, Copy)]
-pub struct CellsText<'a> {
-    pub memory: &'a [u8],
-    pub cells: &'a [u8],
+fn put_word_digits(text: &mut [u8], at: usize, w: u16)
+    requires { at ≤ 38 }
+    ensures { text.new ≡ sets text.old at (word_digits w) }
+{
+    put_byte_digits(text, at, high(w));
+    put_byte_digits(text, at + 2, low(w));
 }
 
-impl<'a> fmt::Display for CellsText<'a> {
-    ghost output = { λ t. Some (cells_text t.memory.now t.cells.now) };
-
-    fn fmt<W: fmt::Write>(&self, f: &mut fmt::Formatter<W>) -> fmt::Result {
-        let mut rest = self.cells;
-        while let [high, low, _, others @ ..] = rest {
-            let address = word(*high, *low);
-            let byte = byte_at(self.memory, address as usize);
-            write!(f, ", {}", CellText { address, byte })?;
-            rest = others;
-        }
-        Ok(())
-    }
-}
-
-/// Marks as text, in decimal.
-#[derive(Clone, Copy)]
-pub struct MarksText<'a>(pub &'a [u16]);
-
-impl<'a> fmt::Display for MarksText<'a> {
-    ghost output = { λ t. Some (marks_text t.0.now) };
-
-    fn fmt<W: fmt::Write>(&self, f: &mut fmt::Formatter<W>) -> fmt::Result {
-        write!(f, ", marks")?;
-        for mark in self.0 {
-            write!(f, " {mark}")?;
-        }
-        Ok(())
-    }
+// The registers by name; PC by the 24 bits that document 01 gives it.
+pub fn registers_text(r: Registers) -> [u8; 42]
+    ensures { result ≡ registers_text r }
+{
+    let mut text = [0u8; 42];
+    slices::copy(b"A .. X .... Y .... CC .. SP .... PC ......", &mut text);
+    put_byte_digits(&mut text, 2, r.a);
+    put_word_digits(&mut text, 7, r.x);
+    put_word_digits(&mut text, 14, r.y);
+    put_byte_digits(&mut text, 22, r.cc);
+    put_word_digits(&mut text, 28, r.sp);
+    put_byte_digits(&mut text, 36, (r.pc / 65536 % 256) as u8);
+    put_word_digits(&mut text, 38, (r.pc % 65536) as u16);
+    text
 }
