@@ -1,46 +1,57 @@
 // Bytes from hexadecimal text.
 #![tactic(auto)]
 
-ghost use Rattle.std.specs.Prelude.{◌≡◌, ◌<◌, ◌≤◌, ◌++◌, length, take, drop, unwrap_or, IfSome};
+ghost use Rattle.std.specs.Prelude.{◌≡◌, ◌≤◌, ◌++◌, length, take, drop};
 ghost use Rattle.hexadecimal.specs.Text.{digit as digit_of, pair as pair_of, spelled};
 
-// The value of a digit, none for any other character.
-#[tactic(auto, unfolding(crate::specs::Text::digit))]
-fn digit(c: u8) -> Option<u8>
-    ensures value { unwrap_or result 16 ≡ digit_of c }
-    ensures digit_bound { IfSome result (λ n. n < 16) }
+// The value of a digit, 16 for any other character.
+fn digit(c: u8) -> u8
+    ensures { result ≡ digit_of c }
 {
-    match c {
-        b'0'..=b'9' => Some(c - b'0'),
-        b'A'..=b'F' => Some(c - b'A' + 10),
-        _ => None,
+    if c < b'0' {
+        return 16;
     }
+    if c <= b'9' {
+        return c - b'0';
+    }
+    if c < b'A' {
+        return 16;
+    }
+    if c <= b'F' { c - b'A' + 10 } else { 16 }
 }
 
-/// The byte of two digits, none where one of the characters is no digit.
-pub fn pair(c: u8, d: u8) -> Option<u8>
-    ensures { unwrap_or result 256 ≡ pair_of c d }
+// The byte of two digits, 256 where one of the characters is none.
+pub fn pair(c: u8, d: u8) -> u16
+    ensures { result ≡ pair_of c d }
 {
-    Some(digit(c)? * 16 + digit(d)?)
+    let high = digit(c) as u16;
+    let low = digit(d) as u16;
+    if high < 16 {
+        if low < 16 {
+            return high * 16 + low;
+        }
+    }
+    256
 }
 
-/// Writes the bytes that a text spells, as many as there is room for, and gives their number; the bytes after them stay.
+// Writes the bytes that a text spells, as many as there is room for, and gives their number; the bytes after them stay.
 pub fn parse(text: &[u8], bytes: &mut [u8]) -> usize
     ensures upper_bound { result ≤ length bytes.new }
     ensures bytes_after { bytes.new ≡ take (length bytes.old) (spelled text.now) ++ drop result bytes.old }
 {
     let mut n = 0;
-    let mut rest = text;
-    while let [c, d, others @ ..] = rest {
-        if let Some(byte) = pair(*c, *d) {
+    let mut i = 0;
+    while i + 1 < text.len() {
+        let value = pair(text[i], text[i + 1]);
+        if value < 256 {
             if n == bytes.len() {
                 return n;
             }
-            bytes[n] = byte;
+            bytes[n] = value as u8;
             n += 1;
-            rest = others;
+            i += 2;
         } else {
-            rest = &rest[1..];
+            i += 1;
         }
     }
     n

@@ -33,7 +33,7 @@ returns-in-Ok c =
 pub returns-in-Err : goal.returns-in-Err
 returns-in-Err c =
     let outcome = invalid (sym c.in-Err.ensures.answer ∙ ap Refused (sym c.number.ensures)) in record {
-      marks_value = outcome_checked _ _ _ outcome;
-      verdict_numbered = verdict_numbered outcome;
+      marks_value = rw c.of_rule.ensures (outcome_checked _ _ _ outcome);
+      verdict_numbered = rw c.of_rule.ensures (verdict_numbered outcome);
       by_index = λ need count e. absurd (cc);
     }

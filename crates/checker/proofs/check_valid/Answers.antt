@@ -9,7 +9,7 @@ use Rattle.checker.proofs.check_valid.Goals as goal
 
 pub returns-then-marks-size : goal.returns-then-marks-size
 returns-then-marks-size c =
-    few c.requires.0 (omega (arith, size_is _ _ _ c.requires.0, c.if-marks-size.true))
+    rw c.of_rule.ensures (few c.requires.0 (omega (arith, size_is _ _ _ c.requires.0, c.if-marks-size.true)))
 
 pub check_code-requires : goal.check_code-requires
 check_code-requires c = length-take-le _ _ c.if-marks-size.false

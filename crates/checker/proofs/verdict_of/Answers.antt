@@ -10,7 +10,7 @@ pub overflow_add-need : goal.overflow_add-need
 overflow_add-need c = omega (arith, (rw c.in-Ok.is at c.requires.2).1 (c.args.layout.count - 1))
 
 pub returns-then-stack-need : goal.returns-then-stack-need
-returns-then-stack-need c = rw c.in-Ok.is (narrow c.if-stack-need.true)
+returns-then-stack-need c = rw (c.in-Ok.is, c.of_rule.ensures) (narrow c.if-stack-need.true)
 
 pub returns-else-stack-need : goal.returns-else-stack-need
 returns-else-stack-need c = rw c.in-Ok.is (accepting c.if-stack-need.false)

@@ -4,8 +4,8 @@ use Rattle.gate.proofs.start.Goals as goal
 
 pub returns-then-memory-ne32768 : goal.returns-then-memory-ne32768
 returns-then-memory-ne32768 c = record {
-  cc_value = rw c.refused.ensures (start_17 _ _ _ _ _ _ _ _ c.if-memory-ne32768.true);
-  verdict_numbered = rw c.refused.ensures numbered_17;
+  cc_value = rw (c.refused.ensures, c.of_rule.ensures) (start_17 _ _ _ _ _ _ _ _ c.if-memory-ne32768.true);
+  verdict_numbered = rw (c.refused.ensures, c.of_rule.ensures) numbered_17;
 }
 
 pub begin-registers-requires : goal.begin-registers-requires
