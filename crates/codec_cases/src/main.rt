@@ -7,7 +7,9 @@ use code::lengths_of;
 use cycles::Timed;
 use std::io;
 use std::io::Write;
-use stm8::{AluOp, BitOp, BitTest, DecodeError, Decoded, Instruction, ModifyOp, Offset, Operand, Register};
+use stm8::{
+    AluOp, BitOp, BitTest, DecodeError, Decoded, Instruction, ModifyOp, Offset, Operand, Register,
+};
 use timing::{decode_timed, decode_timed_at, decode_timed_by, decode_timed_for};
 
 fn print_number(out: &mut impl Write, label: &[u8], number: u64) -> io::Result<()> {

@@ -13,7 +13,7 @@ returns-in_err-found c =
 pub returns-in-Err-Outside : goal.returns-in-Err-Outside
 returns-in-Err-Outside c =
     sym (not_in_map c.args.lengths.now c.args.bytes.now c.decode_any.ensures.0 (λ k. (c.shared_slice_known-1.given k).fits)
-        (sym c.decode_any.ensures.1 ∙ c.in_ok-found.was) cc)
+    (sym c.decode_any.ensures.1 ∙ c.in_ok-found.was) cc)
 
 pub returns-in_default : goal.returns-in_default
 returns-in_default c = sym c.in_ok-found.was ∙ c.decode_any.ensures.1 ∙ in_map c.args.lengths.now c.args.bytes.now c.decode_any.ensures.0 (λ z. cc)
