@@ -25,6 +25,6 @@ pub fn disassemble(i: Instruction, address: u16, buffer: &mut [u8]) -> Result<us
     if buffer.len() < letters.len() {
         return Err(TooShort);
     }
-    slices::copy(letters, buffer);
+    buffer[..letters.len()].copy_from_slice(letters);
     Ok(letters.len())
 }

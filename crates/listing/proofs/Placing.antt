@@ -13,9 +13,8 @@ use Rattle.numbers.specs.Computed.{counting}
 use Rattle.numbers.proofs.Checking.{by_cond}
 use Rattle.stm8.specs.declared.Instruction.{Instruction}
 use Rattle.disassembly.specs.Text.{text, placed}
-use Rattle.disassembly.specs.declared.Written.{Written}
-use Rattle.disassembly.specs.declared.Written.TheVariants.{Bytes, TooShort}
-use Rattle.disassembly.proofs.Placing.{text_placed}
+use Rattle.std.proofs.Common.{Result, Ok, Err}
+use Rattle.disassembly.specs.declared.TooShort.{TooShort}
 use Rattle.image.specs.Image.{base_of, size_of, limits_of}
 use Rattle.code.specs.Code.{instruction_in}
 use Rattle.image.specs.Validation.{validated}
@@ -28,7 +27,7 @@ use Rattle.listing.specs.Listing.{verdict_line, start_line, line_at, listing, lo
 use Rattle.listing.specs.Internal.{Wrote}
 
 pub listed_short : (image marks buffer : List ℕ) (outcome : Verdict × List ℕ) → length buffer < longest →
-    listed image marks buffer outcome ≡ (TooShort, marks, buffer)
+    listed image marks buffer outcome ≡ (Err (record {}), marks, buffer)
 unfolding listed
 listed_short image marks buffer outcome h = rw (lt-ltb (length buffer) longest h)
 
@@ -39,52 +38,17 @@ placed_start buffer lines after end w h =
 
 pub listed_fits : (image marks buffer : List ℕ) (outcome : Verdict × List ℕ) → longest ≤ length buffer → length (listing image outcome) ≤ longest →
     (end : ℕ) (marks' buffer' : List ℕ) → Wrote 0 buffer (listing image outcome) end buffer' → marks' ≡ outcome.1 →
-    (Bytes end, marks', buffer') ≡ listed image marks buffer outcome
+    (Ok end, marks', buffer') ≡ listed image marks buffer outcome
 unfolding listed
 listed_fits image marks buffer outcome room size end marks' buffer' w e =
     let p = placed_start buffer (listing image outcome) buffer' end w (le_trans size room) in
     rw (le-ltb (length buffer) longest room, p.0, p.1, e)
-
--- the text of an instruction in a part that has room for any
-pub text_written : (address : ℕ) (i : Instruction) (part after : List ℕ) (written : Written) (n : ℕ) →
-    (written, after) ≡ placed (text address i) part → 23 ≤ length part → written ≡ Bytes n →
-    (n ≡ length (text address i)) × (after ≡ text address i ++ drop (length (text address i)) part)
-text_written address i part after written n e room is =
-    let p = e ∙ text_placed address i part room in
-    let w : written ≡ Bytes (length (text address i)) = ap (λ (x : Written × List ℕ). x.0) p in
-    (cc, ap (λ (x : Written × List ℕ). x.1) p)
-
-pub text_fits : (address : ℕ) (i : Instruction) (part after : List ℕ) (written : Written) → (written, after) ≡ placed (text address i) part →
-    23 ≤ length part → written ≡ TooShort → ⊥
-text_fits address i part after written e room is =
-    let w : written ≡ Bytes (length (text address i)) = ap (λ (x : Written × List ℕ). x.0) (e ∙ text_placed address i part room) in
-    let z : ◌≡◌ {A = ℕ} 0 1 = cc in
-    omega arith
 
 -- the line of a start
 pub line_start : (image marks : List ℕ) (offset mark : ℕ) → mark ≡ get_or marks offset 0 → (mark ≡ 0 → ⊥) →
     start_line (base_of image + offset) (mark - 1) (instruction_in image offset) ≡ line_at image marks offset
 unfolding line_at
 line_start image marks offset mark is some = rw (← is, ne_eqb mark 0 some)
-
--- what was written lies within the buffer
-pub listed_within : (image marks buffer : List ℕ) (outcome : Verdict × List ℕ) (n : ℕ) (marks' buffer' : List ℕ) →
-    (Bytes n, marks', buffer') ≡ listed image marks buffer outcome → n ≤ length buffer'
-unfolding listed
-listed_within image marks buffer outcome n marks' buffer' e =
-    let lines = listing image outcome in
-    by_cond (ltb (length buffer) longest) {x = (TooShort, marks, buffer)} {y = (Bytes (length lines), outcome.1, lines ++ drop (length lines) buffer)}
-    (λ t p.
-    let w : TooShort ≡ Bytes n = ap (λ (x : Written × List ℕ × List ℕ). x.0) p in
-    let z : ◌≡◌ {A = ℕ} 0 1 = cc in
-    let never : ⊥ = omega arith in
-    absurd never)
-    (λ t p.
-    let w : Bytes (length lines) ≡ Bytes n = ap (λ (x : Written × List ℕ × List ℕ). x.0) p in
-    let size : length lines ≡ n = cc in
-    let holds : lines ++ drop (length lines) buffer ≡ buffer' = ap (λ (x : Written × List ℕ × List ℕ). x.2) p in
-    rw (← holds, length-append) (omega arith))
-    (sym e)
 
 -- the parts of a listing
 module _ (image marks : List ℕ) (outcome : Verdict × List ℕ) where

@@ -12,6 +12,8 @@ use Rattle.stm8.specs.Decoding.{Decoded}
 use Rattle.numbers.specs.Ascii.{ascii}
 use Rattle.numbers.specs.Computed.{counting}
 use Rattle.notation.specs.Notation.{word_digits}
+use Rattle.notation.specs.Writing.{appended}
+use Rattle.notation.proofs.Growing.{appended_all}
 use Rattle.disassembly.proofs.Sizes.{text_size}
 use Rattle.image.specs.Image.{base_of, size_of, limits_of}
 use Rattle.code.specs.Code.{instruction_in}
@@ -23,9 +25,9 @@ use Rattle.image.proofs.Validity.{valid_rules}
 use Rattle.acceptance.specs.Check.{checked, validated_checked}
 use Rattle.rules.specs.Verdict.{Verdict}
 use Rattle.rules.specs.Verdict as Verdict
+use Rattle.listing.specs.Internal.{Wrote}
 use Rattle.listing.specs.Decimal.{leading, last_digit, decimal}
 use Rattle.listing.specs.Listing.{verdict_line, text_at, start_line, line_at, start_lines, listing, longest, image_in, checked_input}
-use Rattle.listing.specs.Internal.{Wrote}
 
 unless_size : (t : Bool) (s : List ℕ) {n : ℕ} → length s ≤ n → length (cond t [] s) ≤ n
 unless_size true s h = omega arith
@@ -44,6 +46,12 @@ verdict_line_size : (v : Verdict) → length (verdict_line v) ≤ 21
 verdict_line_size (Ok a) = simp length-append (omega (arith, decimal_size a.need, decimal_size a.count))
 verdict_line_size (Err r) = simp length-append (omega (arith, decimal_size r.number, decimal_size r.offset))
 
+-- nothing of line one is left out
+pub verdict_whole : (v : Verdict) → appended 21 [] (verdict_line v) ≡ verdict_line v
+verdict_whole v =
+    let size = verdict_line_size v in
+    appended_all 21 [] (verdict_line v) (omega arith)
+
 -- after line one there is room for the lines of all starts
 pub starts_room : (at size : ℕ) (v : Verdict) (before after : List ℕ) → Wrote 0 before (verdict_line v) at after → longest ≤ length before → size ≤ 4096 →
     at + 35 * size ≤ length after
@@ -53,12 +61,15 @@ pub text_at_size : (address : ℕ) (d : Decoded) → length (text_at address d) 
 text_at_size address (Ok (i, n)) = (text_size address i).most
 text_at_size address (Err e) = omega arith
 
-pub front_size : (address depth : ℕ) → length (word_digits address ++ ascii " " ++ decimal depth ++ ascii " ") ≤ 11
-front_size address depth = simp length-append (omega (arith, decimal_size depth))
-
 start_line_size : (address depth : ℕ) (d : Decoded) → length (start_line address depth d) ≤ 35
 unfolding start_line
 start_line_size address depth d = simp length-append (omega (arith, decimal_size depth, text_at_size address d))
+
+-- nor of a start's
+pub start_whole : (address depth : ℕ) (d : Decoded) → appended 35 [] (start_line address depth d) ≡ start_line address depth d
+start_whole address depth d =
+    let size = start_line_size address depth d in
+    appended_all 35 [] (start_line address depth d) (omega arith)
 
 pub line_size : (image marks : List ℕ) (offset : ℕ) → length (line_at image marks offset) ≤ 35
 unfolding line_at

@@ -1,13 +1,12 @@
 -- What document 01's verdict program prints.
-use Rattle.std.specs.Prelude.{ℕ, ◌+◌, ◌-◌, ◌*◌, cond, eqb, ltb, length, get_or, drop, Ok, Err}
+use Rattle.std.specs.Prelude.{ℕ, ◌+◌, ◌-◌, ◌*◌, cond, eqb, ltb, length, get_or, drop, Ok, Err, Result}
 use mathlib.Core.List.{List, [], ◌∷◌, ◌++◌, flat_map}
 use Rattle.stm8.specs.Decoding.{Decoded}
 use Rattle.numbers.specs.Ascii.{ascii}
 use Rattle.numbers.specs.Computed.{counting}
 use Rattle.notation.specs.Notation.{word_digits}
 use Rattle.disassembly.specs.Text.{text}
-use Rattle.disassembly.specs.declared.Written.{Written}
-use Rattle.disassembly.specs.declared.Written.TheVariants.{Bytes, TooShort}
+use Rattle.disassembly.specs.declared.TooShort.{TooShort}
 use Rattle.image.specs.Image.{base_of, size_of, limits_of}
 use Rattle.code.specs.Code.{instruction_in}
 use Rattle.acceptance.specs.Check.{checked}
@@ -52,10 +51,10 @@ abbrev pub longest : ℕ
 longest = 21 + 35 * 4096
 
 -- Where a listing goes: the answer, the marks and the buffer after it. A buffer shorter than the longest listing is refused, and nothing changes.
-unfoldable pub listed : List ℕ → List ℕ → List ℕ → Verdict × List ℕ → Written × List ℕ × List ℕ
+unfoldable pub listed : List ℕ → List ℕ → List ℕ → Verdict × List ℕ → Result ℕ TooShort × List ℕ × List ℕ
 listed image marks buffer outcome =
     let lines = listing image outcome in
-    cond (ltb (length buffer) longest) (TooShort, marks, buffer) (Bytes (length lines), outcome.1, lines ++ drop (length lines) buffer)
+    cond (ltb (length buffer) longest) (Err (record {}), marks, buffer) (Ok (length lines), outcome.1, lines ++ drop (length lines) buffer)
 
 -- Standard input has the six limits (12 bytes, high byte first; fewer gives 1), then an image.
 abbrev pub image_in : List ℕ → List ℕ
