@@ -15,6 +15,7 @@ use disassembly::text_of;
 use image::{base_of, code_at, version_of};
 use notation::Text;
 use rules::Verdict;
+use stm8::Decoded;
 
 /// Line one.
 #[tactic(auto, using(crate::proofs::Sizes::verdict_whole))]
