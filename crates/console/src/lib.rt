@@ -14,6 +14,7 @@ pub fn read_full<R: Read>(input: &mut R, buffer: &mut [u8]) -> io::Result<usize>
     ensures end { IfOk result (λ n. n < length buffer.new → IsAtEnd (R.remaining input.new)) }
 {
     let mut n = 0;
+    // std reads to the end into a `Vec` alone, and there is no heap here.
     while n < buffer.len() {
         let more = input.read(&mut buffer[n..])?;
         if more == 0 {

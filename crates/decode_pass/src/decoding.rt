@@ -62,6 +62,7 @@ pub(crate) fn decode_starts(
         RoutineDecoded image r cells.new (number_of result) (at_of result) }
 {
     let mut at = r.start;
+    // A step is as long as its instruction, which is known once it is decoded: no range has these offsets.
     while at < r.end {
         let d = decode_start(code, begins, r, at)?;
         cells[at] = d.row;

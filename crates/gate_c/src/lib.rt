@@ -1,4 +1,5 @@
-// The gate for callers in C: numbers, slices and fixed arrays alone. include/gate.h has the declarations.
+// The gate for callers in C: numbers, slices and fixed arrays alone, one by one, so that lists of parameters are long and a number stands for each answer.
+// include/gate.h has the declarations.
 #![tactic(auto)]
 
 ghost use Rattle.std.specs.Prelude.{◌≡◌, ◌<◌, [], ◌∷◌};

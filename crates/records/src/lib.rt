@@ -14,7 +14,8 @@ use image::Limits;
 use machine::{Registers, Stepped};
 
 // The registers before a step and the bytes of memory that it overwrote: how many, where each lies and what it held, the lower address first. A count
-// and addresses have 32 bits, as the cells of a caller in C: a value that is too large is refused, and none is cut.
+// and addresses have 32 bits, as the cells of a caller in C, and stand apart from the values as those do: a value that is too large is refused, and none
+// is cut.
 #[derive(Clone, Copy)]
 pub struct Record {
     pub registers: Registers,

@@ -27,7 +27,7 @@ pub enum TurnAnswer {
     Within(u32),
 }
 
-// An answer in numbers: 0 for a turn, 66 for none, 67 for over, else the refusal's; the refusal's offset, and the turn, 0 where there is none.
+// An answer in the numbers that C gets: 0 for a turn, 66 for none, 67 for over, else the refusal's; the refusal's offset, and the turn, 0 where there is none.
 #[derive(Clone, Copy, Debug, PartialEq, Eq)]
 pub struct TurnValues {
     pub number: u8,

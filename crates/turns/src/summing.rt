@@ -98,6 +98,7 @@ fn sum_routine(code: &[u8], begins: &[u16; 32], turns: &[u64; 32], r: Routine) -
 {
     let mut turn = 0;
     let mut at = r.start;
+    // A step is as long as its instruction, which is known once it is decoded: no range has these offsets.
     while at < r.end {
         let counted = count_at(code, begins, turns, r, at)?;
         turn = held(turn + counted.turn);
