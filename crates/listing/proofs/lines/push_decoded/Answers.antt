@@ -12,7 +12,7 @@ here : (d : After-decode_at) →
     instruction_in d.args.image.now d.args.offset ≡ d.decode_at.result
 here d =
     ap (λ n. decoded_at d.args.image.now n d.args.offset) (sym d.requires.1) ∙
-    sym (d.decode_at.ensures.by_index _ d.version_of-version.ensures (code_cut _ _ d.code_at-code.ensures.value))
+    sym (d.decode_at.ensures.of_image _ d.version_of-version.ensures (code_cut _ _ d.code_at-code.ensures.value))
 
 pub returns-in-Ok : goal.returns-in-Ok
 returns-in-Ok c =
