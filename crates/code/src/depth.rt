@@ -8,42 +8,28 @@ use stm8::{Effect, Flow};
 fn moves_depth(flow: Flow) -> bool
     ensures { result ≡ moves_depth flow }
 {
-    match flow {
-        Flow::Next => true,
-        Flow::Branch(_) => true,
-        Flow::Jump(_) => true,
-        Flow::Call(_) => false,
-        Flow::CallRelative(_) => false,
-        Flow::Return => false,
-    }
+    matches!(flow, Flow::Next | Flow::Branch(_) | Flow::Jump(_))
 }
 
 // The bytes of the routine's own that an instruction pops.
+#[tactic(auto, unfolding(crate::specs::Depth::popped))]
 pub fn popped(e: Effect) -> u8
     ensures { result ≡ popped_by e }
 {
-    let flow = e.flow;
-    if moves_depth(flow) { e.pops } else { 0 }
+    if moves_depth(e.flow) { e.pops } else { 0 }
 }
 
 // The bytes of the routine's own that an instruction pushes.
+#[tactic(auto, unfolding(crate::specs::Depth::pushed))]
 pub fn pushed(e: Effect) -> u8
     ensures { result ≡ pushed_by e }
 {
-    let flow = e.flow;
-    if moves_depth(flow) { e.pushes } else { 0 }
+    if moves_depth(e.flow) { e.pushes } else { 0 }
 }
 
 // Only JRA and RET do not fall through.
 pub fn falls(flow: Flow) -> bool
     ensures { result ≡ falls_by flow }
 {
-    match flow {
-        Flow::Next => true,
-        Flow::Branch(_) => true,
-        Flow::Jump(_) => false,
-        Flow::Call(_) => true,
-        Flow::CallRelative(_) => true,
-        Flow::Return => false,
-    }
+    !matches!(flow, Flow::Jump(_) | Flow::Return)
 }

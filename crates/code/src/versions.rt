@@ -1,31 +1,17 @@
 // The set of an image's version: 0001 has all that the op-code map has, 0002 leaves out CALLR, the op-code AD without pre-code.
 ghost use Rattle.std.specs.Prelude.{◌≡◌};
-ghost use Rattle.code.specs.Set.{allowed as allowed_in, decoded_for, lengths_for};
+ghost use Rattle.code.specs.Set.{decoded_for, lengths_for};
 ghost use Rattle.code.specs.Internal.{left_out};
 
 use decoder::decode;
 use numbers::words::byte_at;
-use stm8::{DecodeError, Decoded, Instruction, map_lengths};
-
-// Whether a version allows an instruction.
-fn allowed(version: u16, i: Instruction) -> bool
-    ensures { result ≡ allowed_in version i }
-{
-    let Instruction::Callr(_) = i else {
-        return true;
-    };
-    version != 2
-}
+use stm8::{DecodeError, Decoded, map_lengths};
 
 // Whether a version leaves out all that begins with a byte.
 fn left_out(version: u16, first: u8) -> bool
     ensures { result ≡ left_out version first }
 {
-    if first == 0xAD {
-        !allowed(version, Instruction::Callr(0))
-    } else {
-        false
-    }
+    first == 0xAD && version == 2
 }
 
 // What bytes are in an image of a version: what the whole map has, where the version allows it. What is left out has no length, so AD is outside the
@@ -45,9 +31,7 @@ pub fn lengths_of(version: u16) -> [[u8; 256]; 3]
 {
     let mut lengths = map_lengths();
     if left_out(version, 0xAD) {
-        let mut plain = lengths[0];
-        plain[0xAD] = 0;
-        lengths[0] = plain;
+        lengths[0][0xAD] = 0;
     }
     lengths
 }

@@ -15,15 +15,15 @@ pub returns : goal.returns
 unfolding decoded_at
 returns c =
     let code = c.args.code.now in record {
-      by_index = λ image version own.
+      of_image = λ image version own.
           c.decode_for.ensures ∙
-          ap (decoded_for c.args.version) (rw (c.least-from.ensures, c.least-to.ensures) (within code c.args.at c.args.end)) ∙
+          ap (decoded_for c.args.version) (rw (c.min.ensures, c.min-to.ensures) (within code c.args.at c.args.end)) ∙
           ap (λ v. decoded_for v (take (c.args.end - c.args.at) (drop c.args.at code))) version ∙
           ap (λ s. decoded_for (version_of image) (take (c.args.end - c.args.at) (drop c.args.at s))) own;
-      n_nonzero = λ i n found.
-          let part = take (c.least-to.result - c.least-from.result) (drop c.least-from.result code) in
+      ends_within = λ i n found.
+          let part = take (c.min-to.result - c.min.result) (drop c.min.result code) in
           let here = found_within part i n (found_in_set c.args.version i n part (sym c.decode_for.ensures ∙ found)).0 in (
             here.0,
-            omega (arith, here, length-take (c.least-to.result - c.least-from.result) (drop c.least-from.result code), c.least-from.ensures, c.least-to.ensures),
+            omega (arith, here, length-take (c.min-to.result - c.min.result) (drop c.min.result code), c.min.ensures, c.min-to.ensures),
           );
     }

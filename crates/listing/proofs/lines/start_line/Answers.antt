@@ -34,7 +34,7 @@ returns c =
     let image = c.args.image.now in
     let code = c.code_at.result in
     let found : c.decode_at-found.result ≡ instruction_in image c.args.offset =
-    c.decode_at-found.ensures.by_index image c.version_of.ensures (code_cut image code c.code_at.ensures.value) ∙
+    c.decode_at-found.ensures.of_image image c.version_of.ensures (code_cut image code c.code_at.ensures.value) ∙
     ap (λ n. decoded_at image n c.args.offset) (code_size image code c.requires.rules c.code_at.ensures.value) in
     rw (c.push-3.ensures, c.push_found.ensures, c.push-2.ensures, c.push_decimal.ensures, c.push.ensures, c.push_word.ensures, c.new-line.ensures, c.base_of.ensures, found)
     (line_written (base_of image + c.args.offset) c.args.depth (instruction_in image c.args.offset))

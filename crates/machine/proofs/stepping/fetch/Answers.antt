@@ -12,7 +12,7 @@ pub returns : goal.returns
 unfolding layout_of
 returns c =
     let image = c.args.image.now in
-    c.decode_at.ensures.by_index image (ap (λ (l : Layout). l.version) c.requires.valid.is) (code_cut image c.args.layout.code (ap (λ (l : Layout). l.code) c.requires.valid.is)) ∙
+    c.decode_at.ensures.of_image image (ap (λ (l : Layout). l.version) c.requires.valid.is) (code_cut image c.args.layout.code (ap (λ (l : Layout). l.code) c.requires.valid.is)) ∙
     ap (λ (l : Layout). decoded_at image l.size (c.args.pc - l.base)) c.requires.valid.is
 
 pub overflow_sub-pc : goal.overflow_sub-pc

@@ -11,5 +11,5 @@ returns-then-image-code c rules = absurd (long_enough _ rules _ c.code_at-code.e
 pub returns : goal.returns
 returns c rules =
     let image = c.args.image.now in
-    c.decode_at.ensures.by_index image c.version_of.ensures (code_cut image _ c.code_at-code.ensures.value) ∙
+    c.decode_at.ensures.of_image image c.version_of.ensures (code_cut image _ c.code_at-code.ensures.value) ∙
     rw (c.offset_from.ensures, c.base_of.ensures, rest_is_code image rules _ c.code_at-code.ensures.value)

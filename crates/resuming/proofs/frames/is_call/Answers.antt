@@ -27,16 +27,16 @@ answer image at layout is version_is told =
 pub returns-in_default : goal.returns-in_default
 returns-in_default c =
     call_none _ _ _ _ _
-    (sym (answer c.args.image.now c.args.at c.requires.0 c.code_at-code.ensures.value c.version_of.ensures c.decode_at.ensures.by_index) ∙ c.in_default.is)
+    (sym (answer c.args.image.now c.args.at c.requires.0 c.code_at-code.ensures.value c.version_of.ensures c.decode_at.ensures.of_image) ∙ c.in_default.is)
 
 pub returns-else-at-n : goal.returns-else-at-n
 returns-else-at-n c =
     ne_eqb _ _ c.if-at-n.false ∙ call_elsewhere _ _ _ _ _
-    (sym (answer c.args.image.now c.args.at c.requires.0 c.code_at-code.ensures.value c.version_of.ensures c.decode_at.ensures.by_index) ∙ c.in-Ok.is)
+    (sym (answer c.args.image.now c.args.at c.requires.0 c.code_at-code.ensures.value c.version_of.ensures c.decode_at.ensures.of_image) ∙ c.in-Ok.is)
     c.if-at-n.false
 
 pub returns-then-at-n : goal.returns-then-at-n
 returns-then-at-n c =
     call_here _ _ _ _ _
-    (sym (answer c.args.image.now c.args.at c.requires.0 c.code_at-code.ensures.value c.version_of.ensures c.decode_at.ensures.by_index) ∙ c.in-Ok.is)
+    (sym (answer c.args.image.now c.args.at c.requires.0 c.code_at-code.ensures.value c.version_of.ensures c.decode_at.ensures.of_image) ∙ c.in-Ok.is)
     c.if-at-n.true c.base_of.ensures c.calls.ensures
