@@ -6,8 +6,9 @@ mod instructions;
 ghost use Rattle.std.specs.Prelude.{◌≡◌, ◌≤◌, length, IfOk};
 ghost use Rattle.disassembly.specs.Text.{text as text_of, placed};
 
-pub use instructions::text_of;
+pub use instructions::{push_text, text_of};
 pub use notation::LONGEST;
+use notation::Text;
 use stm8::Instruction;
 
 /// A buffer has no room for what was to be written to it.
@@ -20,7 +21,8 @@ pub fn disassemble(i: Instruction, address: u16, buffer: &mut [u8]) -> Result<us
     ensures text { (result, buffer.new) ≡ placed (text_of address i) buffer.old }
     ensures within { IfOk result (λ n. n ≤ length buffer.new) }
 {
-    let text = text_of(i, address);
+    let mut text: Text<LONGEST> = Text::new();
+    push_text(&mut text, i, address);
     let letters = text.as_bytes();
     if buffer.len() < letters.len() {
         return Err(TooShort);

@@ -23,3 +23,8 @@ number_of (Err error) = error_number error
 abbrev pub answer_of : Result Layout ImageError → Validated
 answer_of (Ok layout) = Valid layout
 answer_of (Err error) = Refused (error_number error)
+
+-- the same by the numbers of whatever errors
+abbrev pub numbered_answer : {E : Type 0} → (E → ℕ) → Result Layout E → Validated
+numbered_answer number (Ok layout) = Valid layout
+numbered_answer number (Err error) = Refused (number error)

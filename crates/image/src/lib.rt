@@ -8,9 +8,10 @@ mod lengths;
 mod measured;
 mod parts;
 
-ghost use Rattle.std.specs.Prelude.{◌≡◌, IfOk};
+ghost use Rattle.std.specs.Prelude.{◌≡◌, ℕ, IfOk};
+ghost use Rattle.image.specs.Lengths.{Begins};
 ghost use Rattle.image.specs.Measured.{measured_answer};
-ghost use Rattle.image.specs.Validated.{error_number, answer_of};
+ghost use Rattle.image.specs.Validated.{Valid, error_number, answer_of, numbered_answer};
 ghost use Rattle.image.specs.Validation.{laid_out, validated, validation_number};
 
 pub use access::granted;
@@ -63,11 +64,36 @@ impl ImageError {
     }
 }
 
+/// What has one of document 01's numbers: an error by its name, and a number as it is.
+pub trait Numbered {
+    ghost number_of: { Self → ℕ };
+
+    fn as_number(self) -> u8
+        ensures { result ≡ number_of self };
+}
+
+impl Numbered for ImageError {
+    ghost number_of = { error_number };
+
+    fn as_number(self) -> u8 {
+        self.number()
+    }
+}
+
+impl Numbered for u8 {
+    ghost number_of = { λ number. number };
+
+    fn as_number(self) -> u8 {
+        self
+    }
+}
+
 // The layout of an image under limits, and where its routines begin; or the first rule that is broken, in document 01's order.
 #[tactic(auto, using(crate::proofs::Alone::laid_under), unfolding(crate::specs::Validation::validated, crate::specs::Validation::refusal, numbers::specs::Folds::first_in, numbers::specs::Checks::first))]
-pub fn measure(image: &[u8], limits: Limits) -> Result<Measured<'_>, ImageError>
+pub fn measure(image: &[u8], limits: Limits) -> Result<Measured, ImageError>
     ensures answer { measured_answer result ≡ validated image.now limits }
-    ensures same_image { IfOk result (λ measured. measured.image.now ≡ image.now) }
+    ensures alone { IfOk result (λ measured. laid_out image.now ≡ Valid measured.layout) }
+    ensures begins { IfOk result (λ measured. Begins image.now measured.begins measured.layout.count) }
 {
     areas::limits_check(limits)?;
     measure_alone(image)
@@ -75,19 +101,16 @@ pub fn measure(image: &[u8], limits: Limits) -> Result<Measured<'_>, ImageError>
 
 // The same for an image by itself, with no limits.
 #[tactic(auto, using(numbers::proofs::Folding::first_none), unfolding(crate::specs::Validation::laid_out, crate::specs::Validation::image_check, numbers::specs::Folds::first_in, numbers::specs::Checks::first))]
-pub fn measure_alone(image: &[u8]) -> Result<Measured<'_>, ImageError>
+pub fn measure_alone(image: &[u8]) -> Result<Measured, ImageError>
     ensures answer { measured_answer result ≡ laid_out image.now }
-    ensures same_image { IfOk result (λ measured. measured.image.now ≡ image.now) }
+    ensures alone { IfOk result (λ measured. laid_out image.now ≡ Valid measured.layout) }
+    ensures begins { IfOk result (λ measured. Begins image.now measured.begins measured.layout.count) }
 {
     header::mark_check(image)?;
     header::version_check(image)?;
     let (lengths, begins) = header::read_lengths(image);
     let layout = header::layout_check(image, lengths)?;
-    Ok(Measured {
-        image,
-        layout,
-        begins,
-    })
+    Ok(Measured { layout, begins })
 }
 
 // The layout alone.
@@ -98,11 +121,11 @@ pub fn validate(image: &[u8], limits: Limits) -> Result<Layout, ImageError>
 }
 
 // Document 01's number of an answer, 0 where nothing is refused.
-pub fn validation_number(validated: Result<Layout, ImageError>) -> u8
-    ensures { result ≡ validation_number (answer_of validated) }
+pub fn validation_number<E: Numbered>(validated: Result<Layout, E>) -> u8
+    ensures { result ≡ validation_number (numbered_answer E.number_of validated) }
 {
     match validated {
         Ok(_) => 0,
-        Err(error) => error.number(),
+        Err(error) => error.as_number(),
     }
 }

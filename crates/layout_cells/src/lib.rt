@@ -2,6 +2,8 @@
 #![tactic(auto)]
 
 ghost use Rattle.std.specs.Prelude.{◌≡◌, ◌∷◌, ◌≤◌, replicate};
+ghost use Rattle.image.specs.Lengths.{Begins};
+ghost use Rattle.image.specs.Validated.{Valid};
 ghost use Rattle.image.specs.Validation.{laid_out, validation_number};
 ghost use Rattle.layout_cells.specs.Cells.{filled_cells, layout_cells};
 
@@ -23,8 +25,10 @@ fn header_cells(layout: Layout) -> [u16; 37]
 
 // The cells of an image that follows the rules.
 #[tactic(auto, using(image::proofs::Alone::laid_bounds))]
-fn filled_cells(measured: &Measured<'_>) -> [u16; 37]
-    ensures { result ≡ filled_cells measured.now.image.now measured.now.layout }
+fn filled_cells(image: &[u8], measured: &Measured) -> [u16; 37]
+    requires alone { laid_out image.now ≡ Valid measured.now.layout }
+    requires begins { Begins image.now measured.now.begins measured.now.layout.count }
+    ensures { result ≡ filled_cells image.now measured.now.layout }
 {
     let layout = measured.layout;
     let end = 5 + layout.count;
@@ -40,7 +44,7 @@ pub fn layout_of(image: &[u8], cells: &mut [u16; 37]) -> u8
 {
     match measure_alone(image) {
         Ok(measured) => {
-            *cells = filled_cells(&measured);
+            *cells = filled_cells(image, &measured);
             0
         }
         Err(error) => {

@@ -5,6 +5,7 @@ use mathlib.Core.List.{List, [], ◌∷◌, ◌++◌, append_assoc, append-nil, 
 use native.Mathlib.Nat.{add-zero, zero-add, le_refl}
 use native.Mathlib.Numerals.{add-one}
 use native.Mathlib.Omega.{arith}
+use borrow.Author.Rules.{part_to_end}
 use borrow.Rule.Slice.PartMut.{put_mid, Post-is}
 use lib.ListN.{length, set, take, drop, length-append, length-drop, drop_of_length-le}
 use lib.Seq.{sets, length-sets, sets-eq, drop-drop}
@@ -40,6 +41,23 @@ wrote_part at buffer s room =
     let all : put_mid at (at + length s - at) buffer s ≡ sets buffer at s =
     ap (λ (rest : List ℕ). take at buffer ++ (s ++ rest)) (Post-is at (at + length s) buffer (omega arith)) ∙ sym (sets-eq s buffer at room ∙ append_assoc (take at buffer) s _) in
     record { end = refl; room = ap length all ∙ length-sets buffer at s; holds = all; within = rw (all, length-sets buffer at s) room }
+
+-- bytes that were put to the start of the part from an index on
+pub wrote_front : (from n : ℕ) (buffer s part : List ℕ) → from + length s ≤ length buffer → n ≡ length s →
+    part ≡ s ++ drop (length s) (take (length buffer - from) (drop from buffer)) →
+    Wrote from buffer s (from + n) (take from buffer ++ (part ++ drop (length buffer - from) (drop from buffer)))
+wrote_front from n buffer s part room size e =
+    let end : drop (length buffer - from) (drop from buffer) ≡ [] =
+    drop_of_length-le (drop from buffer) {i = length buffer - from} (rw (length-drop from buffer) (le_refl _)) in
+    let all : sets buffer from s ≡ take from buffer ++ (part ++ drop (length buffer - from) (drop from buffer)) =
+    sets-eq s buffer from room ∙ rw (end, append-nil, e, part_to_end buffer from, drop-drop, append_assoc) in
+    let same : length (take from buffer ++ (part ++ drop (length buffer - from) (drop from buffer))) ≡ length buffer = ap length (sym all) ∙ length-sets buffer from s in
+    record {
+      end = ap (λ k. from + k) size;
+      room = same;
+      holds = sym all;
+      within = omega (arith, same, size, room);
+    }
 
 -- one number more
 lines_more : (f : ℕ → List ℕ) (n i : ℕ) → flat_map f (counting (suc n) i) ≡ flat_map f (counting n i) ++ f (i + n)

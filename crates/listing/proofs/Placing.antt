@@ -1,20 +1,18 @@
 -- A listing in a buffer that has room for any, and in one that has not.
 use Prim.Native.Nat.{ℕ, ◌+◌, ◌-◌, ◌≤◌, ◌<◌}
-use mathlib.Core.Path.{◌≡◌, sym, ap, ◌∙◌}
+use mathlib.Core.Path.{◌≡◌, ap, ◌∙◌}
 use mathlib.Core.List.{List, ◌++◌, append-nil, flat_map}
 use native.Mathlib.Nat.{zero-add, le_trans}
-use native.Mathlib.Omega.{arith}
 use borrow.Author.Tests.{lt-ltb, le-ltb, ne_eqb}
 use borrow.Author.Rules.{part_to_end}
-use lib.Dec.{ltb}
-use lib.ListN.{length, get_or, take, drop, length-append}
+use lib.ListN.{length, get_or, take, drop}
 use lib.Seq.{sets-eq}
 use Rattle.numbers.specs.Computed.{counting}
-use Rattle.numbers.proofs.Checking.{by_cond}
 use Rattle.stm8.specs.declared.Instruction.{Instruction}
 use Rattle.disassembly.specs.Text.{text, placed}
 use Rattle.std.proofs.Common.{Result, Ok, Err}
 use Rattle.disassembly.specs.declared.TooShort.{TooShort}
+use Rattle.disassembly.proofs.Placing.{text_placed}
 use Rattle.image.specs.Image.{base_of, size_of, limits_of}
 use Rattle.code.specs.Code.{instruction_in}
 use Rattle.image.specs.Validation.{validated}
@@ -43,6 +41,21 @@ unfolding listed
 listed_fits image marks buffer outcome room size end marks' buffer' w e =
     let p = placed_start buffer (listing image outcome) buffer' end w (le_trans size room) in
     rw (le-ltb (length buffer) longest room, p.0, p.1, e)
+
+-- the text of an instruction in a part that has room for any
+pub text_written : (address : ℕ) (i : Instruction) (part after : List ℕ) (written : Result ℕ TooShort) (n : ℕ) →
+    (written, after) ≡ placed (text address i) part → 23 ≤ length part → written ≡ Ok n →
+    (n ≡ length (text address i)) × (after ≡ text address i ++ drop (length (text address i)) part)
+text_written address i part after written n e room is =
+    let p = e ∙ text_placed address i part room in
+    let w : written ≡ Ok (length (text address i)) = ap (λ (x : Result ℕ TooShort × List ℕ). x.0) p in
+    (cc, ap (λ (x : Result ℕ TooShort × List ℕ). x.1) p)
+
+pub text_fits : (address : ℕ) (i : Instruction) (part after : List ℕ) (written : Result ℕ TooShort) {error : TooShort} →
+    (written, after) ≡ placed (text address i) part → 23 ≤ length part → written ≡ Err error → ⊥
+text_fits address i part after written e room is =
+    let w : written ≡ Ok (length (text address i)) = ap (λ (x : Result ℕ TooShort × List ℕ). x.0) (e ∙ text_placed address i part room) in
+    absurd cc
 
 -- the line of a start
 pub line_start : (image marks : List ℕ) (offset mark : ℕ) → mark ≡ get_or marks offset 0 → (mark ≡ 0 → ⊥) →

@@ -61,6 +61,9 @@ pub text_at_size : (address : ℕ) (d : Decoded) → length (text_at address d) 
 text_at_size address (Ok (i, n)) = (text_size address i).most
 text_at_size address (Err e) = omega arith
 
+pub front_size : (address depth : ℕ) → length (word_digits address ++ ascii " " ++ decimal depth ++ ascii " ") ≤ 11
+front_size address depth = simp length-append (omega (arith, decimal_size depth))
+
 start_line_size : (address depth : ℕ) (d : Decoded) → length (start_line address depth d) ≤ 35
 unfolding start_line
 start_line_size address depth d = simp length-append (omega (arith, decimal_size depth, text_at_size address d))

@@ -2,6 +2,7 @@
 #![tactic(auto)]
 
 mod lines;
+mod writing;
 
 ghost use Rattle.std.specs.Prelude.{◌≡◌, ◌+◌, ◌*◌, ◌≤◌, length, IfOk};
 ghost use mathlib.Core.List.{flat_map};
@@ -14,9 +15,8 @@ ghost use Rattle.listing.specs.Listing.{line_at, listed, image_in, checked_input
 
 use checker::check;
 use disassembly::TooShort;
-use image::{Limits, code_at, limits_of};
-use lines::{line_at, verdict_line};
-use notation::Text;
+use image::{Limits, limits_of};
+use lines::{push_starts, write_verdict};
 use rules::Refusal;
 
 // No listing is longer: 21 bytes for line one, and at most 35 for each of at most 4,096 code bytes.
@@ -37,9 +37,9 @@ pub fn list(
         return Err(TooShort);
     }
     let verdict = check(image, limits, marks);
-    let end = append(buffer, 0, &verdict_line(verdict));
+    let end = write_verdict(buffer, verdict);
     match verdict {
-        Ok(_) => Ok(append_starts(buffer, end, image, marks)),
+        Ok(_) => Ok(push_starts(buffer, end, image, marks)),
         Err(_) => Ok(end),
     }
 }
@@ -54,31 +54,7 @@ pub fn list_input(input: &[u8], marks: &mut [u16], buffer: &mut [u8]) -> Result<
         return Err(TooShort);
     }
     if input.len() < 12 {
-        return Ok(append(buffer, 0, &verdict_line(Err(Refusal::of_rule(1)))));
+        return Ok(write_verdict(buffer, Err(Refusal::of_rule(1))));
     }
     list(&input[12..], limits_of(input), marks, buffer)
-}
-
-// The lines of all starts, rising.
-fn append_starts(buffer: &mut [u8], end: usize, image: &[u8], marks: &[u16]) -> usize
-    requires { ImageRules image.now × (end + 35 * size_of image.now ≤ length buffer.old) }
-    ensures { Wrote end buffer.old
-        (flat_map (line_at image.now marks.now) (counting (size_of image.now) 0)) result buffer.new }
-{
-    let mut end = end;
-    for offset in 0..image.len() - code_at(image) {
-        end = append(buffer, end, &line_at(image, marks, offset));
-    }
-    end
-}
-
-// Puts a line at an index, and answers the index past it.
-fn append<const N: usize>(buffer: &mut [u8], at: usize, line: &Text<N>) -> usize
-    requires { at + length line.now ≤ length buffer.old }
-    ensures { Wrote at buffer.old line.now result buffer.new }
-{
-    let letters = line.as_bytes();
-    let end = at + letters.len();
-    buffer[at..end].copy_from_slice(letters);
-    end
 }

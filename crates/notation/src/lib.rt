@@ -2,7 +2,7 @@
 #![tactic(auto)]
 
 mod lines;
-mod names;
+pub mod names;
 mod text;
 
 pub use lines::{Shown, line};

@@ -1,12 +1,12 @@
 // A line: a name, and what stands after it.
 #![tactic(auto, using(crate::proofs::Growing::appended_twice, crate::proofs::Growing::appended_none))]
 
-ghost use Rattle.std.specs.Prelude.{◌≡◌, ℕ, [], List, map};
+ghost use Rattle.std.specs.Prelude.{◌≡◌, ◌≤◌, ℕ, [], List, map, take};
 ghost use Rattle.notation.specs.Notation.{bit_position, half_text, offset_text, operand_text, register_text, line};
 ghost use Rattle.notation.specs.Writing.{appended, shown_text};
 
 use crate::LONGEST;
-use crate::text::{Text, hex_digit};
+use crate::text::{Text, hex_digit, put, put_all, put_byte, put_word};
 use stm8::{Half, Offset, Operand, Register};
 
 /// What stands after a name.
@@ -24,96 +24,129 @@ pub fn line(name: &str, operands: &[Shown]) -> Text<LONGEST>
     ensures { result ≡ appended LONGEST [] (line name.now (map shown_text operands.now)) }
 {
     let mut text = Text::new();
-    text.push_all(name.as_bytes());
-    let mut separator = b' ';
-    for &operand in operands {
-        text.push(separator);
-        push_shown(&mut text, operand);
-        separator = b',';
-    }
+    text.push_line(name, operands);
     text
 }
 
-fn push_shown(text: &mut Text<LONGEST>, shown: Shown)
-    ensures { text.new ≡ appended LONGEST text.old (shown_text shown) }
+impl<const N: usize> Text<N> {
+    /// The same at the end of a text.
+    pub fn push_line(&mut self, name: &str, operands: &[Shown])
+        ensures { self.new ≡ appended N self.old (line name.now (map shown_text operands.now)) }
+    {
+        self.length = put_line(&mut self.letters, self.length, name, operands);
+    }
+}
+
+fn put_line<const N: usize>(
+    cells: &mut [u8; N],
+    length: usize,
+    name: &str,
+    operands: &[Shown],
+) -> usize
+    requires { length ≤ N }
+    ensures within { result ≤ N }
+    ensures written { take result cells.new ≡ appended N (take length cells.old) (line name.now (map shown_text operands.now)) }
+{
+    let mut end = put_all(cells, length, name.as_bytes());
+    let mut separator = b' ';
+    for &operand in operands {
+        end = put(cells, end, separator);
+        end = put_shown(cells, end, operand);
+        separator = b',';
+    }
+    end
+}
+
+fn put_shown<const N: usize>(cells: &mut [u8; N], length: usize, shown: Shown) -> usize
+    requires { length ≤ N }
+    ensures within { result ≤ N }
+    ensures written { take result cells.new ≡ appended N (take length cells.old) (shown_text shown) }
 {
     match shown {
-        Shown::Operand(x) => push_operand(text, x),
-        Shown::Register(r) => push_register(text, r),
+        Shown::Operand(x) => put_operand(cells, length, x),
+        Shown::Register(r) => put_register(cells, length, r),
         Shown::Half(r, h) => {
-            push_register(text, r);
-            text.push(match h {
+            let length = put_register(cells, length, r);
+            let letter = match h {
                 Half::Low => b'L',
                 Half::High => b'H',
-            });
+            };
+            put(cells, length, letter)
         }
-        Shown::StackPointer => text.push_all(b"SP"),
+        Shown::StackPointer => put_all(cells, length, b"SP"),
         Shown::Position(n) => {
-            text.push(b'#');
-            text.push(hex_digit(n));
+            let length = put(cells, length, b'#');
+            put(cells, length, hex_digit(n))
         }
     }
 }
 
-fn push_operand(text: &mut Text<LONGEST>, x: Operand)
-    ensures { text.new ≡ appended LONGEST text.old (operand_text x) }
+fn put_operand<const N: usize>(cells: &mut [u8; N], length: usize, x: Operand) -> usize
+    requires { length ≤ N }
+    ensures within { result ≤ N }
+    ensures written { take result cells.new ≡ appended N (take length cells.old) (operand_text x) }
 {
     match x {
-        Operand::Accumulator => text.push(b'A'),
+        Operand::Accumulator => put(cells, length, b'A'),
         Operand::Immediate(n) => {
-            text.push_all(b"#$");
-            text.push_byte(n);
+            let length = put_all(cells, length, b"#$");
+            put_byte(cells, length, n)
         }
         Operand::ImmediateWord(w) => {
-            text.push_all(b"#$");
-            text.push_word(w);
+            let length = put_all(cells, length, b"#$");
+            put_word(cells, length, w)
         }
         Operand::Short(a) => {
-            text.push(b'$');
-            text.push_byte(a);
+            let length = put(cells, length, b'$');
+            put_byte(cells, length, a)
         }
         Operand::Long(a) => {
-            text.push(b'$');
-            text.push_word(a);
+            let length = put(cells, length, b'$');
+            put_word(cells, length, a)
         }
         Operand::Indexed(r, f) => {
-            text.push(b'(');
-            push_offset(text, f);
-            push_register(text, r);
-            text.push(b')');
+            let length = put(cells, length, b'(');
+            let length = put_offset(cells, length, f);
+            let length = put_register(cells, length, r);
+            put(cells, length, b')')
         }
         Operand::Sp(n) => {
-            text.push_all(b"($");
-            text.push_byte(n);
-            text.push_all(b",SP)");
+            let length = put_all(cells, length, b"($");
+            let length = put_byte(cells, length, n);
+            put_all(cells, length, b",SP)")
         }
     }
 }
 
 // An offset in front of its register.
-fn push_offset(text: &mut Text<LONGEST>, f: Offset)
-    ensures { text.new ≡ appended LONGEST text.old (offset_text f) }
+fn put_offset<const N: usize>(cells: &mut [u8; N], length: usize, f: Offset) -> usize
+    requires { length ≤ N }
+    ensures within { result ≤ N }
+    ensures written { take result cells.new ≡ appended N (take length cells.old) (offset_text f) }
 {
     match f {
-        Offset::Zero => {}
+        Offset::Zero => length,
         Offset::Byte(n) => {
-            text.push(b'$');
-            text.push_byte(n);
-            text.push(b',');
+            let length = put(cells, length, b'$');
+            let length = put_byte(cells, length, n);
+            put(cells, length, b',')
         }
         Offset::Word(w) => {
-            text.push(b'$');
-            text.push_word(w);
-            text.push(b',');
+            let length = put(cells, length, b'$');
+            let length = put_word(cells, length, w);
+            put(cells, length, b',')
         }
     }
 }
 
-fn push_register(text: &mut Text<LONGEST>, r: Register)
-    ensures { text.new ≡ appended LONGEST text.old (register_text r) }
+fn put_register<const N: usize>(cells: &mut [u8; N], length: usize, r: Register) -> usize
+    requires { length ≤ N }
+    ensures within { result ≤ N }
+    ensures written { take result cells.new ≡ appended N (take length cells.old) (register_text r) }
 {
-    text.push(match r {
+    let letter = match r {
         Register::X => b'X',
         Register::Y => b'Y',
-    });
+    };
+    put(cells, length, letter)
 }

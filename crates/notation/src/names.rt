@@ -4,6 +4,37 @@ ghost use Rattle.notation.specs.Names.{alu_name, modify_name, word_alu_name, wor
 
 use stm8::{AluOp, BitOp, BitTest, Condition, FlagOp, ModifyOp, WordAluOp, WordModifyOp};
 
+// The names of instructions that are no operation of a kind, and those of operations that stand for other instructions too.
+pub const ADDW: &str = "ADDW";
+
+pub const CALL: &str = "CALL";
+
+pub const CALLR: &str = "CALLR";
+
+pub const EXGW: &str = "EXGW";
+
+pub const LD: &str = "LD";
+
+pub const LDW: &str = "LDW";
+
+pub const MOV: &str = "MOV";
+
+pub const MUL: &str = "MUL";
+
+pub const NOP: &str = "NOP";
+
+pub const POP: &str = "POP";
+
+pub const POPW: &str = "POPW";
+
+pub const PUSH: &str = "PUSH";
+
+pub const PUSHW: &str = "PUSHW";
+
+pub const RET: &str = "RET";
+
+pub const SUB: &str = "SUB";
+
 /// An operation that has a name.
 pub trait Named {
     ghost name_of: { Self → List ℕ };
@@ -22,10 +53,10 @@ impl Named for AluOp {
             AluOp::And => "AND",
             AluOp::Bcp => "BCP",
             AluOp::Cp => "CP",
-            AluOp::Ld => "LD",
+            AluOp::Ld => LD,
             AluOp::Or => "OR",
             AluOp::Sbc => "SBC",
-            AluOp::Sub => "SUB",
+            AluOp::Sub => SUB,
             AluOp::Xor => "XOR",
         }
     }
@@ -57,7 +88,7 @@ impl Named for WordAluOp {
 
     fn name(self) -> &'static str {
         match self {
-            WordAluOp::Addw => "ADDW",
+            WordAluOp::Addw => ADDW,
             WordAluOp::Cpw => "CPW",
             WordAluOp::Subw => "SUBW",
         }

@@ -1,4 +1,6 @@
 // A text that grows at its end, in place.
+#![tactic(auto, using(crate::proofs::Growing::appended_twice, crate::proofs::Growing::appended_none))]
+
 ghost use Rattle.std.specs.Prelude.{◌≡◌, ℕ, ◌≤◌, List, [], ◌∷◌, length, take};
 ghost use Rattle.notation.specs.Notation.{digit, byte_digits, word_digits};
 ghost use Rattle.notation.specs.Writing.{appended};
@@ -9,8 +11,8 @@ use std::marker::Model;
 /// At most N letters. What is written after them is left out.
 #[derive(Drop)]
 pub struct Text<const N: usize> {
-    letters: [u8; N],
-    length: usize,
+    pub(crate) letters: [u8; N],
+    pub(crate) length: usize,
 }
 
 // Clauses see the letters.
@@ -22,7 +24,6 @@ impl<const N: usize> Model for Text<N> {
     ghost invariant = { λ t. t.length ≤ N };
 }
 
-#[tactic(auto, using(crate::proofs::Growing::appended_twice, crate::proofs::Growing::appended_none))]
 impl<const N: usize> Text<N> {
     pub fn new() -> Self
         ensures { result ≡ [] }
@@ -43,35 +44,90 @@ impl<const N: usize> Text<N> {
     pub fn push(&mut self, letter: u8)
         ensures { self.new ≡ appended N self.old (letter ∷ []) }
     {
-        if self.length < N {
-            self.letters[self.length] = letter;
-            self.length += 1;
-        }
+        self.length = put(&mut self.letters, self.length, letter);
     }
 
     pub fn push_all(&mut self, letters: &[u8])
         ensures { self.new ≡ appended N self.old letters.now }
     {
-        for &letter in letters {
-            self.push(letter);
-        }
+        self.length = put_all(&mut self.letters, self.length, letters);
     }
 
     /// The two hexadecimal digits of a byte.
     pub fn push_byte(&mut self, n: u8)
         ensures { self.new ≡ appended N self.old (byte_digits n) }
     {
-        self.push(hex_digit(n / 16));
-        self.push(hex_digit(n));
+        self.length = put_byte(&mut self.letters, self.length, n);
     }
 
     /// The four hexadecimal digits of a word.
     pub fn push_word(&mut self, w: u16)
         ensures { self.new ≡ appended N self.old (word_digits w) }
     {
-        self.push_byte(words::high(w));
-        self.push_byte(words::low(w));
+        self.length = put_word(&mut self.letters, self.length, w);
     }
+}
+
+// Writing in the cells of a text, past the letters that are there, gives how many there are then. The number goes from call to call by itself: beside the
+// cells, it would be written and read again at each letter, since a letter might for all the compiler knows be written over it.
+pub(crate) fn put<const N: usize>(cells: &mut [u8; N], length: usize, letter: u8) -> usize
+    requires { length ≤ N }
+    ensures within { result ≤ N }
+    ensures written { take result cells.new ≡ appended N (take length cells.old) (letter ∷ []) }
+{
+    if length < N {
+        cells[length] = letter;
+        length + 1
+    } else {
+        length
+    }
+}
+
+// All at once where there is room for them: so their number is tested once, and not a letter at a time.
+pub(crate) fn put_all<const N: usize>(cells: &mut [u8; N], length: usize, letters: &[u8]) -> usize
+    requires { length ≤ N }
+    ensures within { result ≤ N }
+    ensures written { take result cells.new ≡ appended N (take length cells.old) letters.now }
+{
+    if N - length < letters.len() {
+        return put_each(cells, length, letters);
+    }
+    let end = length + letters.len();
+    let part = &mut cells[..];
+    part[length..end].copy_from_slice(letters);
+    end
+}
+
+// As far as there is room.
+#[cold]
+fn put_each<const N: usize>(cells: &mut [u8; N], length: usize, letters: &[u8]) -> usize
+    requires { length ≤ N }
+    ensures within { result ≤ N }
+    ensures written { take result cells.new ≡ appended N (take length cells.old) letters.now }
+{
+    let mut end = length;
+    for &letter in letters {
+        end = put(cells, end, letter);
+    }
+    end
+}
+
+pub(crate) fn put_byte<const N: usize>(cells: &mut [u8; N], length: usize, n: u8) -> usize
+    requires { length ≤ N }
+    ensures within { result ≤ N }
+    ensures written { take result cells.new ≡ appended N (take length cells.old) (byte_digits n) }
+{
+    let length = put(cells, length, hex_digit(n / 16));
+    put(cells, length, hex_digit(n))
+}
+
+pub(crate) fn put_word<const N: usize>(cells: &mut [u8; N], length: usize, w: u16) -> usize
+    requires { length ≤ N }
+    ensures within { result ≤ N }
+    ensures written { take result cells.new ≡ appended N (take length cells.old) (word_digits w) }
+{
+    let length = put_byte(cells, length, words::high(w));
+    put_byte(cells, length, words::low(w))
 }
 
 // The last hexadecimal digit of a byte.

@@ -1,6 +1,5 @@
 -- `checker::check_begins` meets its contract: its outcome is a declared one, and there is one only.
-use mathlib.Core.Path.{◌≡◌, sym, subst, ◌∙◌, ap}
-use mathlib.Core.List.{List}
+use mathlib.Core.Path.{sym, subst, ◌∙◌, ap}
 use Prim.Native.Nat.{ℕ}
 use Rattle.image.specs.Image.{layout_of}
 use Rattle.image.specs.Lengths.{Begins}
@@ -11,13 +10,10 @@ use Rattle.rules.proofs.EveryOutcome.{verdict_numbered}
 use Rattle.acceptance.proofs.Accepting.{outcome_checked}
 use Rattle.checker.proofs.check_begins.Goals as goal
 
-begins_in : {image image' : List ℕ} (begins : List ℕ) {count : ℕ} → image' ≡ image → Begins image' begins count → Begins image begins count
-begins_in begins same told = rw (← same) told
-
 pub check_valid-verdict-requires : goal.check_valid-verdict-requires
 check_valid-verdict-requires c =
     let told = c.in-Ok.ensures in
-    (sym told.answer, begins_in _ told.same_image c.in-Ok.measured.routines_begin)
+    (sym told.answer, told.begins)
 
 pub returns-in-Ok : goal.returns-in-Ok
 unfolding layout_of
@@ -27,7 +23,7 @@ returns-in-Ok c =
       marks_value = outcome_checked _ _ _ c.check_valid-verdict.ensures;
       verdict_numbered = verdict_numbered c.check_valid-verdict.ensures;
       by_index = λ need count e.
-          subst (λ (n : ℕ). Begins c.args.image.now measured.begins n) (count_is _ _ _ (sym told.answer)) (begins_in _ told.same_image measured.routines_begin);
+          subst (λ (n : ℕ). Begins c.args.image.now measured.begins n) (count_is _ _ _ (sym told.answer)) told.begins;
     }
 
 pub returns-in-Err : goal.returns-in-Err

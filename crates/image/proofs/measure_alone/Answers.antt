@@ -3,9 +3,7 @@ use Rattle.std.proofs.Common.{sym}
 use Rattle.image.proofs.Alone.{laid_by_checks, begins_alone}
 use Rattle.image.proofs.measure_alone.Goals as goal
 
-pub invariant_of-result : goal.invariant_of-result
-invariant_of-result c =
-    let laid = laid_by_checks _ (sym c.in_ok-mark_check.ensures) (sym c.in_ok-version_check.ensures) (sym c.in_ok-layout.ensures) in record {
-      is_laid_out = laid;
-      routines_begin = begins_alone _ _ _ laid c.read_lengths.ensures.begins_to_16_bits;
-    }
+pub returns-clause-begins : goal.returns-clause-begins
+returns-clause-begins c =
+    let laid = laid_by_checks _ (sym c.in_ok-mark_check.ensures) (sym c.in_ok-version_check.ensures) (sym c.in_ok-layout.ensures) in
+    begins_alone _ _ _ laid c.read_lengths.ensures.begins_to_16_bits

@@ -1,5 +1,5 @@
 -- `layout_cells::filled_cells` meets its contract.
-use Rattle.std.proofs.Common.{◌≡◌, ◌+◌, ◌≤◌, length, refl, arith, rules}
+use Rattle.std.proofs.Common.{arith}
 use Rattle.image.proofs.Alone.{laid_bounds}
 use Rattle.layout_cells.proofs.Filling.{cells_filled}
 use Rattle.layout_cells.proofs.filled_cells.Goals as goal
@@ -7,5 +7,5 @@ use Rattle.layout_cells.proofs.filled_cells.Goals as goal
 pub returns : goal.returns
 returns c =
     let measured = c.args.measured.now in
-    let few = (laid_bounds _ _ measured.is_laid_out).count.1 in
-    cells_filled measured.image.now measured.layout measured.begins few (omega arith) measured.routines_begin c.header_cells-cells.ensures c.copy_from_slice.ensures.after (omega arith)
+    let few = (laid_bounds _ _ c.requires.alone).count.1 in
+    cells_filled c.args.image.now measured.layout measured.begins few (omega arith) c.requires.begins c.header_cells-cells.ensures c.copy_from_slice.ensures.after (omega arith)

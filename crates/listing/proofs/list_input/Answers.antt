@@ -18,7 +18,7 @@ returns-then-input-lt12 c =
     let input = c.args.input.now in
     let marks = c.args.marks.now in
     let refused = input_short input marks (omega (arith, c.if-input-lt12.true)) in
-    let first = rw (c.verdict_line.ensures, c.of_rule.ensures) at c.append.ensures in
+    let first = rw c.of_rule.ensures at c.write_verdict.ensures in
     record {
       listing =
           listed_fits (image_in input) marks c.args.buffer.now (checked_input input marks) c.if-buffer-lt-LONGEST.false (input_listing_size input marks) _ _ _

@@ -7,4 +7,4 @@ returns-then-same_registers c =
     λ h.
     step_goes c.args.image.now c.limits_of-limits.result c.args.before c.args.memory.now c.step.result.stepped _ c.args.after
     c.args.expected.now c.limits_of-limits.ensures c.step.ensures.outcome c.in-Made.is
-    (c.same_registers.ensures c.if-same_registers.true) (c.same.ensures.0 h)
+    (c.same_registers.ensures c.if-same_registers.true) (c.same_memory.ensures h)
