@@ -83,24 +83,7 @@ pub(crate) fn put<const N: usize>(cells: &mut [u8; N], length: usize, letter: u8
     }
 }
 
-// All at once where there is room for them: so their number is tested once, and not a letter at a time.
 pub(crate) fn put_all<const N: usize>(cells: &mut [u8; N], length: usize, letters: &[u8]) -> usize
-    requires { length ≤ N }
-    ensures within { result ≤ N }
-    ensures written { take result cells.new ≡ appended N (take length cells.old) letters.now }
-{
-    if N - length < letters.len() {
-        return put_each(cells, length, letters);
-    }
-    let end = length + letters.len();
-    let part = &mut cells[..];
-    part[length..end].copy_from_slice(letters);
-    end
-}
-
-// As far as there is room.
-#[cold]
-fn put_each<const N: usize>(cells: &mut [u8; N], length: usize, letters: &[u8]) -> usize
     requires { length ≤ N }
     ensures within { result ≤ N }
     ensures written { take result cells.new ≡ appended N (take length cells.old) letters.now }

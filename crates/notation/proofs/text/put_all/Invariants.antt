@@ -1,6 +1,6 @@
 use Rattle.std.proofs.Common.{◌≡◌, ◌≤◌, take}
 use Rattle.notation.specs.Writing.{appended}
-use Rattle.notation.proofs.text.put_each.Given as goal
+use Rattle.notation.proofs.text.put_all.Given as goal
 
 abbrev pub invariant-loop-letter : goal.invariant-loop-letter
 invariant-loop-letter g l =
