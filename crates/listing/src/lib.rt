@@ -4,14 +4,9 @@
 mod lines;
 mod writing;
 
-ghost use Rattle.std.specs.Prelude.{◌≡◌, ◌+◌, ◌*◌, ◌≤◌, length, IfOk};
-ghost use mathlib.Core.List.{flat_map};
-ghost use Rattle.numbers.specs.Computed.{counting};
+ghost use Rattle.std.specs.Prelude.{◌≡◌, ◌≤◌, length, IfOk};
 ghost use Rattle.acceptance.specs.Check.{checked};
-ghost use Rattle.image.specs.Image.{size_of};
-ghost use Rattle.image.specs.Rules.{ImageRules};
-ghost use Rattle.listing.specs.Internal.{Wrote};
-ghost use Rattle.listing.specs.Listing.{line_at, listed, image_in, checked_input};
+ghost use Rattle.listing.specs.Listing.{listed, image_in, checked_input};
 
 use checker::check;
 use disassembly::TooShort;
