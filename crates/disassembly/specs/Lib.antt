@@ -1,2 +1,1 @@
 pub mod Text
-pub mod Internal

@@ -1,22 +1,14 @@
 // The text of an instruction: its name, and the operands after it.
 #![tactic(auto, unfolding(crate::specs::Text::text))]
 
-ghost use Rattle.std.specs.Prelude.{◌≡◌, ◌≤◌, [], ◌∷◌, cond, ◌+◌, leb, take};
+ghost use Rattle.std.specs.Prelude.{◌≡◌, [], cond, ◌+◌, leb};
 ghost use Rattle.stm8.specs.IndexRegisters.{other_of};
-ghost use Rattle.stm8.specs.declared.Operand.TheVariants as Operand;
-ghost use Rattle.notation.specs.Notation.{line};
-ghost use Rattle.notation.specs.Writing.{appended, shown_text};
-ghost use Rattle.notation.specs.declared.lines.Shown.TheVariants as Shown;
-ghost use Rattle.disassembly.specs.Internal.{parts_text};
+ghost use Rattle.notation.specs.Writing.{appended};
 ghost use Rattle.disassembly.specs.Text.{target as target_of, text as text_of};
 
 use effects::relative;
-use notation::{LONGEST, Named, Shown, Text, names};
+use notation::{Accumulator, Address, LONGEST, Named, Position, StackPointer, Text, names};
 use stm8::{Instruction, Operand, Register};
-
-const A: Shown = Shown::Operand(Operand::Accumulator);
-
-const SP: Shown = Shown::StackPointer;
 
 // The target of a jump of so many bytes at an address.
 #[tactic(auto, unfolding(crate::specs::Text::target))]
@@ -44,122 +36,6 @@ fn other(r: Register) -> Register
     }
 }
 
-fn address(a: u16) -> Shown
-    ensures { result ≡ Shown.Operand (Operand.Long a) }
-{
-    Shown::Operand(Operand::Long(a))
-}
-
-// A name, and as many of what stands after it. What an instruction shows is put together by value, and one list of it is lent to be written: of a list in
-// each arm, room is kept and cleared for all whenever one is written.
-#[derive(Clone, Copy)]
-struct Parts {
-    name: &'static str,
-    shown: [Shown; 3],
-    count: usize,
-}
-
-fn alone(name: &'static str) -> Parts
-    ensures few { result.count ≤ 3 }
-    ensures text { parts_text result ≡ line name.now [] }
-{
-    Parts {
-        name,
-        shown: [SP, SP, SP],
-        count: 0,
-    }
-}
-
-fn with_one(name: &'static str, x: Shown) -> Parts
-    ensures few { result.count ≤ 3 }
-    ensures text { parts_text result ≡ line name.now (shown_text x ∷ []) }
-{
-    Parts {
-        name,
-        shown: [x, SP, SP],
-        count: 1,
-    }
-}
-
-fn with_two(name: &'static str, x: Shown, y: Shown) -> Parts
-    ensures few { result.count ≤ 3 }
-    ensures text { parts_text result ≡ line name.now (shown_text x ∷ shown_text y ∷ []) }
-{
-    Parts {
-        name,
-        shown: [x, y, SP],
-        count: 2,
-    }
-}
-
-fn with_three(name: &'static str, x: Shown, y: Shown, z: Shown) -> Parts
-    ensures few { result.count ≤ 3 }
-    ensures text { parts_text result ≡ line name.now (shown_text x ∷ shown_text y ∷ shown_text z ∷ []) }
-{
-    Parts {
-        name,
-        shown: [x, y, z],
-        count: 3,
-    }
-}
-
-// The parts of the text of the instruction at an address.
-fn parts_of(i: Instruction, here: u16) -> Parts
-    ensures few { result.count ≤ 3 }
-    ensures text { parts_text result ≡ text_of here i }
-{
-    match i {
-        Instruction::Alu(o, x) => with_two(o.name(), A, Shown::Operand(x)),
-        Instruction::Store(x) => with_two(names::LD, Shown::Operand(x), A),
-        Instruction::LoadHalf(r, h) => with_two(names::LD, A, Shown::Half(r, h)),
-        Instruction::StoreHalf(r, h) => with_two(names::LD, Shown::Half(r, h), A),
-        Instruction::Modify(o, x) => with_one(o.name(), Shown::Operand(x)),
-        Instruction::LoadWord(r, x) => with_two(names::LDW, Shown::Register(r), Shown::Operand(x)),
-        Instruction::StoreWord(r, x) => with_two(names::LDW, Shown::Operand(x), Shown::Register(r)),
-        Instruction::CopyWord(r) => with_two(
-            names::LDW,
-            Shown::Register(r),
-            Shown::Register(other(r)),
-        ),
-        Instruction::WordAlu(o, r, w) => with_two(
-            o.name(),
-            Shown::Register(r),
-            Shown::Operand(Operand::ImmediateWord(w)),
-        ),
-        Instruction::WordModify(o, r) => with_one(o.name(), Shown::Register(r)),
-        Instruction::Pushw(r) => with_one(names::PUSHW, Shown::Register(r)),
-        Instruction::Popw(r) => with_one(names::POPW, Shown::Register(r)),
-        Instruction::Exgw => with_two(
-            names::EXGW,
-            Shown::Register(Register::X),
-            Shown::Register(Register::Y),
-        ),
-        Instruction::Mul(r) => with_two(names::MUL, Shown::Register(r), A),
-        Instruction::Bit(o, n, w) => with_two(o.name(), address(w), Shown::Position(n)),
-        Instruction::BitJump(o, n, w, j) => with_three(
-            o.name(),
-            address(w),
-            Shown::Position(n),
-            address(target(here, bit_jump_length(n), j)),
-        ),
-        Instruction::Mov(to, from) => with_two(
-            names::MOV,
-            Shown::Operand(to),
-            Shown::Operand(from),
-        ),
-        Instruction::Push(x) => with_one(names::PUSH, Shown::Operand(x)),
-        Instruction::Pop(x) => with_one(names::POP, Shown::Operand(x)),
-        Instruction::SubSp(n) => with_two(names::SUB, SP, Shown::Operand(Operand::Immediate(n))),
-        Instruction::AddSp(n) => with_two(names::ADDW, SP, Shown::Operand(Operand::Immediate(n))),
-        Instruction::Jump(o, n) => with_one(o.name(), address(target(here, 2, n))),
-        Instruction::Call(w) => with_one(names::CALL, address(w)),
-        Instruction::Callr(n) => with_one(names::CALLR, address(target(here, 2, n))),
-        Instruction::Ret => alone(names::RET),
-        Instruction::Nop => alone(names::NOP),
-        Instruction::Flag(o) => alone(o.name()),
-    }
-}
-
 /// The text of the instruction at an address.
 pub fn text_of(i: Instruction, here: u16) -> Text<LONGEST>
     ensures { result ≡ appended LONGEST [] (text_of here i) }
@@ -173,6 +49,46 @@ pub fn text_of(i: Instruction, here: u16) -> Text<LONGEST>
 pub fn push_text<const N: usize>(text: &mut Text<N>, i: Instruction, here: u16)
     ensures { text.new ≡ appended N text.old (text_of here i) }
 {
-    let parts = parts_of(i, here);
-    text.push_line(parts.name, &parts.shown[..parts.count]);
+    match i {
+        Instruction::Alu(o, x) => text.push_with_two(o.name(), Accumulator, x),
+        Instruction::Store(x) => text.push_with_two(names::LD, x, Accumulator),
+        Instruction::LoadHalf(r, h) => text.push_with_two(names::LD, Accumulator, (r, h)),
+        Instruction::StoreHalf(r, h) => text.push_with_two(names::LD, (r, h), Accumulator),
+        Instruction::Modify(o, x) => text.push_with_one(o.name(), x),
+        Instruction::LoadWord(r, x) => text.push_with_two(names::LDW, r, x),
+        Instruction::StoreWord(r, x) => text.push_with_two(names::LDW, x, r),
+        Instruction::CopyWord(r) => text.push_with_two(names::LDW, r, other(r)),
+        Instruction::WordAlu(o, r, w) => text.push_with_two(o.name(), r, Operand::ImmediateWord(w)),
+        Instruction::WordModify(o, r) => text.push_with_one(o.name(), r),
+        Instruction::Pushw(r) => text.push_with_one(names::PUSHW, r),
+        Instruction::Popw(r) => text.push_with_one(names::POPW, r),
+        Instruction::Exgw => text.push_with_two(names::EXGW, Register::X, Register::Y),
+        Instruction::Mul(r) => text.push_with_two(names::MUL, r, Accumulator),
+        Instruction::Bit(o, n, w) => text.push_with_two(o.name(), Address(w), Position(n)),
+        Instruction::BitJump(o, n, w, j) => text.push_with_three(
+            o.name(),
+            Address(w),
+            Position(n),
+            Address(target(here, bit_jump_length(n), j)),
+        ),
+        Instruction::Mov(to, from) => text.push_with_two(names::MOV, to, from),
+        Instruction::Push(x) => text.push_with_one(names::PUSH, x),
+        Instruction::Pop(x) => text.push_with_one(names::POP, x),
+        Instruction::SubSp(n) => text.push_with_two(
+            names::SUB,
+            StackPointer,
+            Operand::Immediate(n),
+        ),
+        Instruction::AddSp(n) => text.push_with_two(
+            names::ADDW,
+            StackPointer,
+            Operand::Immediate(n),
+        ),
+        Instruction::Jump(o, n) => text.push_with_one(o.name(), Address(target(here, 2, n))),
+        Instruction::Call(w) => text.push_with_one(names::CALL, Address(w)),
+        Instruction::Callr(n) => text.push_with_one(names::CALLR, Address(target(here, 2, n))),
+        Instruction::Ret => text.push_name(names::RET),
+        Instruction::Nop => text.push_name(names::NOP),
+        Instruction::Flag(o) => text.push_name(o.name()),
+    }
 }

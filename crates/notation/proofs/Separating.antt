@@ -1,7 +1,7 @@
 -- What stands after a name, one after the other, each with the byte that separates it from what is there.
-use Rattle.std.proofs.Common.{◌≡◌, ℕ, ◌+◌, ◌<◌, List, [], ◌∷◌, ◌++◌, length, map, drop, get_or, refl, sym, ap, ◌∙◌}
+use Rattle.std.proofs.Common.{◌≡◌, ℕ, ◌+◌, ◌<◌, List, [], ◌∷◌, ◌++◌, length, map, drop, get_or, refl, sym, ap, ◌∙◌, append_assoc, append-nil}
 use Rattle.std.proofs.lemmas.List.{at_drop_more}
-use Rattle.notation.specs.Notation.{further_operands}
+use Rattle.notation.specs.Notation.{further_operands, line}
 use Rattle.notation.specs.Writing.{appended, shown_text}
 use Rattle.notation.specs.declared.lines.Shown.{Shown}
 use Rattle.notation.proofs.Growing.{appended_twice}
@@ -23,3 +23,20 @@ next_shown n text separator xs k d h =
     appended_twice n _ shown _ ∙ appended_twice n text (separator ∷ []) _ ∙
     ap (λ rest. appended n text (separator ∷ shown ++ rest)) (after_another (map shown_text (drop (k + 1) xs))) ∙
     ap (appended n text) (sym (at_drop_more (λ rest. after separator (map shown_text rest)) xs k d h))
+
+-- one after a name
+pub with_one : (n : ℕ) (text name x : List ℕ) →
+    appended n (appended n (appended n text name) (32 ∷ [])) x ≡ appended n text (line name (x ∷ []))
+with_one n text name x =
+    appended_twice n _ (32 ∷ []) x ∙ appended_twice n text name (32 ∷ x) ∙ ap (λ s. appended n text (name ++ 32 ∷ s)) (sym (append-nil x))
+
+further_one : (xs : List (List ℕ)) (y : List ℕ) → further_operands xs ++ 44 ∷ y ≡ further_operands (xs ++ y ∷ [])
+further_one [] y = ap (λ s. 44 ∷ s) (sym (append-nil y))
+further_one (x ∷ xs) y = rw append_assoc (ap (λ s. 44 ∷ (x ++ s)) (further_one xs y))
+
+-- one more after a line
+pub with_another : (n : ℕ) (text name x : List ℕ) (xs : List (List ℕ)) (y : List ℕ) →
+    appended n (appended n text (line name (x ∷ xs))) (44 ∷ y) ≡ appended n text (line name (x ∷ (xs ++ y ∷ [])))
+with_another n text name x xs y =
+    appended_twice n text (line name (x ∷ xs)) (44 ∷ y) ∙
+    ap (appended n text) (rw (append_assoc, append_assoc) (ap (λ s. name ++ 32 ∷ (x ++ s)) (further_one xs y)))

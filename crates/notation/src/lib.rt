@@ -3,10 +3,12 @@
 
 mod lines;
 pub mod names;
+mod spelling;
 mod text;
 
 pub use lines::{Shown, line};
 pub use names::Named;
+pub use spelling::{Accumulator, Address, Position, StackPointer};
 pub use text::{Text, hex_digit};
 
 // No line is longer.

@@ -1,13 +1,15 @@
 // A line: a name, and what stands after it.
 #![tactic(auto, using(crate::proofs::Growing::appended_twice, crate::proofs::Growing::appended_none))]
 
-ghost use Rattle.std.specs.Prelude.{◌≡◌, ◌≤◌, ℕ, [], List, map, take};
-ghost use Rattle.notation.specs.Notation.{bit_position, half_text, offset_text, operand_text, register_text, line};
+ghost use Rattle.std.specs.Prelude.{◌≡◌, ◌≤◌, ℕ, [], ◌∷◌, ◌++◌, List, map, take};
+ghost use Rattle.numbers.specs.Ascii.{ascii};
+ghost use Rattle.notation.specs.Notation.{line};
 ghost use Rattle.notation.specs.Writing.{appended, shown_text};
 
 use crate::LONGEST;
-use crate::text::{Text, hex_digit, put, put_all, put_byte, put_word};
-use stm8::{Half, Offset, Operand, Register};
+use crate::spelling::{self, Spelled};
+use crate::text::{Text, put, put_all};
+use stm8::{Half, Operand, Register};
 
 /// What stands after a name.
 #[derive(Clone, Copy)]
@@ -17,6 +19,20 @@ pub enum Shown {
     Half(Register, Half),
     StackPointer,
     Position(u8),
+}
+
+impl<const N: usize> Spelled<N> for Shown {
+    ghost spelling = { shown_text };
+
+    fn spell(self, cells: &mut [u8; N], length: usize) -> usize {
+        match self {
+            Shown::Operand(x) => x.spell(cells, length),
+            Shown::Register(r) => r.spell(cells, length),
+            Shown::Half(r, h) => (r, h).spell(cells, length),
+            Shown::StackPointer => spelling::StackPointer.spell(cells, length),
+            Shown::Position(n) => spelling::Position(n).spell(cells, length),
+        }
+    }
 }
 
 /// A name and what stands after it: a space before the first, a comma before each other.
@@ -35,6 +51,69 @@ impl<const N: usize> Text<N> {
     {
         self.length = put_line(&mut self.letters, self.length, name, operands);
     }
+
+    // Where it is known what stands after a name, each has its type, and no list of it is put together to be taken apart again.
+
+    /// A name alone.
+    pub fn push_name(&mut self, name: &str)
+        ensures { self.new ≡ appended N self.old (line name.now []) }
+    {
+        self.length = put_all(&mut self.letters, self.length, name.as_bytes());
+    }
+
+    /// A name with one after it.
+    pub fn push_with_one<P: Spelled<N>>(&mut self, name: &str, x: P)
+        ensures { self.new ≡ appended N self.old (line name.now (P.spelling x ∷ [])) }
+    {
+        self.length = put_with_one(&mut self.letters, self.length, name, x);
+    }
+
+    /// A name with two after it.
+    pub fn push_with_two<P: Spelled<N>, Q: Spelled<N>>(&mut self, name: &str, x: P, y: Q)
+        ensures { self.new ≡ appended N self.old (line name.now (P.spelling x ∷ Q.spelling y ∷ [])) }
+    {
+        let end = put_with_one(&mut self.letters, self.length, name, x);
+        self.length = put_another(&mut self.letters, end, y);
+    }
+
+    /// A name with three after it.
+    pub fn push_with_three<P: Spelled<N>, Q: Spelled<N>, R: Spelled<N>>(
+        &mut self,
+        name: &str,
+        x: P,
+        y: Q,
+        z: R,
+    )
+        ensures { self.new ≡ appended N self.old (line name.now (P.spelling x ∷ Q.spelling y ∷ R.spelling z ∷ [])) }
+    {
+        let end = put_with_one(&mut self.letters, self.length, name, x);
+        let end = put_another(&mut self.letters, end, y);
+        self.length = put_another(&mut self.letters, end, z);
+    }
+}
+
+fn put_with_one<const N: usize, P: Spelled<N>>(
+    cells: &mut [u8; N],
+    length: usize,
+    name: &str,
+    x: P,
+) -> usize
+    requires { length ≤ N }
+    ensures within { result ≤ N }
+    ensures written { take result cells.new ≡ appended N (take length cells.old) (line name.now (P.spelling x ∷ [])) }
+{
+    let end = put_all(cells, length, name.as_bytes());
+    let end = put(cells, end, b' ');
+    x.spell(cells, end)
+}
+
+fn put_another<const N: usize, P: Spelled<N>>(cells: &mut [u8; N], length: usize, x: P) -> usize
+    requires { length ≤ N }
+    ensures within { result ≤ N }
+    ensures written { take result cells.new ≡ appended N (take length cells.old) (ascii "," ++ P.spelling x) }
+{
+    let end = put(cells, length, b',');
+    x.spell(cells, end)
 }
 
 fn put_line<const N: usize>(
@@ -51,102 +130,8 @@ fn put_line<const N: usize>(
     let mut separator = b' ';
     for &operand in operands {
         end = put(cells, end, separator);
-        end = put_shown(cells, end, operand);
+        end = operand.spell(cells, end);
         separator = b',';
     }
     end
-}
-
-fn put_shown<const N: usize>(cells: &mut [u8; N], length: usize, shown: Shown) -> usize
-    requires { length ≤ N }
-    ensures within { result ≤ N }
-    ensures written { take result cells.new ≡ appended N (take length cells.old) (shown_text shown) }
-{
-    match shown {
-        Shown::Operand(x) => put_operand(cells, length, x),
-        Shown::Register(r) => put_register(cells, length, r),
-        Shown::Half(r, h) => {
-            let length = put_register(cells, length, r);
-            let letter = match h {
-                Half::Low => b'L',
-                Half::High => b'H',
-            };
-            put(cells, length, letter)
-        }
-        Shown::StackPointer => put_all(cells, length, b"SP"),
-        Shown::Position(n) => {
-            let length = put(cells, length, b'#');
-            put(cells, length, hex_digit(n))
-        }
-    }
-}
-
-fn put_operand<const N: usize>(cells: &mut [u8; N], length: usize, x: Operand) -> usize
-    requires { length ≤ N }
-    ensures within { result ≤ N }
-    ensures written { take result cells.new ≡ appended N (take length cells.old) (operand_text x) }
-{
-    match x {
-        Operand::Accumulator => put(cells, length, b'A'),
-        Operand::Immediate(n) => {
-            let length = put_all(cells, length, b"#$");
-            put_byte(cells, length, n)
-        }
-        Operand::ImmediateWord(w) => {
-            let length = put_all(cells, length, b"#$");
-            put_word(cells, length, w)
-        }
-        Operand::Short(a) => {
-            let length = put(cells, length, b'$');
-            put_byte(cells, length, a)
-        }
-        Operand::Long(a) => {
-            let length = put(cells, length, b'$');
-            put_word(cells, length, a)
-        }
-        Operand::Indexed(r, f) => {
-            let length = put(cells, length, b'(');
-            let length = put_offset(cells, length, f);
-            let length = put_register(cells, length, r);
-            put(cells, length, b')')
-        }
-        Operand::Sp(n) => {
-            let length = put_all(cells, length, b"($");
-            let length = put_byte(cells, length, n);
-            put_all(cells, length, b",SP)")
-        }
-    }
-}
-
-// An offset in front of its register.
-fn put_offset<const N: usize>(cells: &mut [u8; N], length: usize, f: Offset) -> usize
-    requires { length ≤ N }
-    ensures within { result ≤ N }
-    ensures written { take result cells.new ≡ appended N (take length cells.old) (offset_text f) }
-{
-    match f {
-        Offset::Zero => length,
-        Offset::Byte(n) => {
-            let length = put(cells, length, b'$');
-            let length = put_byte(cells, length, n);
-            put(cells, length, b',')
-        }
-        Offset::Word(w) => {
-            let length = put(cells, length, b'$');
-            let length = put_word(cells, length, w);
-            put(cells, length, b',')
-        }
-    }
-}
-
-fn put_register<const N: usize>(cells: &mut [u8; N], length: usize, r: Register) -> usize
-    requires { length ≤ N }
-    ensures within { result ≤ N }
-    ensures written { take result cells.new ≡ appended N (take length cells.old) (register_text r) }
-{
-    let letter = match r {
-        Register::X => b'X',
-        Register::Y => b'Y',
-    };
-    put(cells, length, letter)
 }

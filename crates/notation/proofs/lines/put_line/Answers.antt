@@ -6,8 +6,8 @@ use Rattle.notation.proofs.lines.put_line.Goals as goal
 
 pub loop-operand-preserved : goal.loop-operand-preserved
 loop-operand-preserved g c = (
-  c.put_shown-end.ensures.within,
-  rw (c.put_shown-end.ensures.written, c.put-end.ensures.written)
+  c.spell-end.ensures.within,
+  rw (c.spell-end.ensures.written, c.put-end.ensures.written)
       (next_shown g.row.N _ c.loop-operand.separator c.args.operands.now c.loop-operand.operand-index _ c.loop-operand-test.true ∙ c.loop-operand.invariant.1),
 )
 
