@@ -354,10 +354,13 @@ pub extern "C" fn gate_decode(
     let timed = decode_timed_for(1, bytes);
     let found = timed.decoded;
     let figures = timed.cycles;
+    // What is asked of it is asked before its text is written, so that the whole of it need not be kept till then: 273 instructions for 282.
+    let number = decoding_number(found);
+    let size = decoded_length(found);
     put_text(found, address, text);
-    *length = [decoded_length(found)];
+    *length = [size];
     *cycles = [figures.untaken, figures.taken];
-    decoding_number(found)
+    number
 }
 
 // The layout of an image by itself: version, base, how many routines, the index of the first code byte, how many code bytes, and where each of 32

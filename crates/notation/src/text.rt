@@ -95,6 +95,29 @@ pub(crate) fn put_all<const N: usize>(cells: &mut [u8; N], length: usize, letter
     end
 }
 
+const LONGEST_NAME: usize = 5;
+
+// The letters of a name. It has five at most, and a loop of so many rounds is written out by the compiler: decoding takes 264 instructions for 273. What a
+// longer one has more comes after them.
+pub(crate) fn put_name<const N: usize>(cells: &mut [u8; N], length: usize, name: &str) -> usize
+    requires { length ≤ N }
+    ensures within { result ≤ N }
+    ensures written { take result cells.new ≡ appended N (take length cells.old) name.now }
+{
+    let letters = name.as_bytes();
+    let mut end = length;
+    for k in 0..LONGEST_NAME {
+        if k < letters.len() {
+            end = put(cells, end, letters[k]);
+        }
+    }
+    if letters.len() <= LONGEST_NAME {
+        end
+    } else {
+        put_all(cells, end, &letters[LONGEST_NAME..])
+    }
+}
+
 pub(crate) fn put_byte<const N: usize>(cells: &mut [u8; N], length: usize, n: u8) -> usize
     requires { length ≤ N }
     ensures within { result ≤ N }

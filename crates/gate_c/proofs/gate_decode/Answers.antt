@@ -13,8 +13,8 @@ returns c =
     let bytes = c.args.bytes.now in
     let e = c.decode_timed_for-timed.ensures ∙ ap with_cycles (whole_map 0x0001 (λ second. omega (arith, second)) bytes) in
     let is : c.decode_timed_for-timed.result.decoded ≡ decoded bytes = ap (λ (t : Timed). t.decoded) e in record {
-      value = rw (← is) c.decoding_number.ensures;
+      value = rw (← is) c.decoding_number-number.ensures;
       text_after = rw (← is) c.put_text.ensures;
-      length_after = rw (← is) (ap (λ n. n ∷ []) c.decoded_length.ensures);
+      length_after = rw (← is) (ap (λ n. n ∷ []) c.decoded_length-size.ensures);
       cycles_after = ap (λ (t : Timed). t.cycles.untaken ∷ t.cycles.taken ∷ []) e;
     }
