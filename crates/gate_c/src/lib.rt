@@ -354,7 +354,8 @@ pub extern "C" fn gate_decode(
     let timed = decode_timed_for(1, bytes);
     let found = timed.decoded;
     let figures = timed.cycles;
-    // What is asked of it is asked before its text is written, so that the whole of it need not be kept till then: 273 instructions for 282.
+    // What is asked of it is asked before its text is written, so that the whole of it need not be kept till then: some ten
+    // instructions less.
     let number = decoding_number(found);
     let size = decoded_length(found);
     put_text(found, address, text);

@@ -1,7 +1,7 @@
 // A line: a name, and what stands after it.
 #![tactic(auto, using(crate::proofs::Growing::appended_twice, crate::proofs::Growing::appended_none))]
 
-ghost use Rattle.std.specs.Prelude.{◌≡◌, ◌≤◌, ℕ, [], ◌∷◌, ◌++◌, List, map, take};
+ghost use Rattle.std.specs.Prelude.{◌≡◌, ◌≤◌, [], ◌∷◌, ◌++◌, map, take};
 ghost use Rattle.numbers.specs.Ascii.{ascii};
 ghost use Rattle.notation.specs.Notation.{line};
 ghost use Rattle.notation.specs.Writing.{appended, shown_text};
@@ -40,21 +40,13 @@ pub fn line(name: &str, operands: &[Shown]) -> Text<LONGEST>
     ensures { result ≡ appended LONGEST [] (line name.now (map shown_text operands.now)) }
 {
     let mut text = Text::new();
-    text.push_line(name, operands);
+    text.length = put_line(&mut text.letters, 0, name, operands);
     text
 }
 
+// The same at the end of a text, where it is known what stands after the name: each has its type, and no list of it is put together to be taken apart
+// again. With something after the name they are put in line: called, decoding a relative jump takes 304 instructions for 266.
 impl<const N: usize> Text<N> {
-    /// The same at the end of a text.
-    pub fn push_line(&mut self, name: &str, operands: &[Shown])
-        ensures { self.new ≡ appended N self.old (line name.now (map shown_text operands.now)) }
-    {
-        self.length = put_line(&mut self.letters, self.length, name, operands);
-    }
-
-    // Where it is known what stands after a name, each has its type, and no list of it is put together to be taken apart again. These are put in line:
-    // called, decoding a jump takes 304 instructions for 266.
-
     /// A name alone.
     pub fn push_name(&mut self, name: &str)
         ensures { self.new ≡ appended N self.old (line name.now []) }

@@ -82,7 +82,7 @@ impl<const N: usize> Spelled<N> for Position {
     }
 }
 
-/// An address in four digits.
+/// An address, or an offset of a word, in four digits.
 #[derive(Clone, Copy)]
 pub struct Address(pub u16);
 

@@ -97,8 +97,8 @@ pub(crate) fn put_all<const N: usize>(cells: &mut [u8; N], length: usize, letter
 
 const LONGEST_NAME: usize = 5;
 
-// The letters of a name. It has five at most, and a loop of so many rounds is written out by the compiler: decoding takes 264 instructions for 273. What a
-// longer one has more comes after them.
+// The letters of a name. The names here have five at most, and a loop of so many rounds is written out by the compiler: in the mean over the op-codes,
+// decoding takes 258 instructions for 273. What a longer one has more comes after them.
 pub(crate) fn put_name<const N: usize>(cells: &mut [u8; N], length: usize, name: &str) -> usize
     requires { length ≤ N }
     ensures within { result ≤ N }
