@@ -354,8 +354,8 @@ pub extern "C" fn gate_decode(
     let timed = decode_timed_for(1, bytes);
     let found = timed.decoded;
     let figures = timed.cycles;
-    // What is asked of it is asked before its text is written, so that the whole of it need not be kept till then: some ten
-    // instructions less.
+    // Number and length are taken before the text is written, so that what was found need not be kept till then: nine instructions less, in the mean over
+    // the op-codes.
     let number = decoding_number(found);
     let size = decoded_length(found);
     put_text(found, address, text);

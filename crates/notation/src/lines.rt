@@ -54,7 +54,7 @@ impl<const N: usize> Text<N> {
         self.length = put_name(&mut self.letters, self.length, name);
     }
 
-    /// A name with one after it.
+    /// A name with one part after it.
     #[inline]
     pub fn push_with_one<P: Spelled<N>>(&mut self, name: &str, x: P)
         ensures { self.new ≡ appended N self.old (line name.now (P.spelling x ∷ [])) }
@@ -62,7 +62,7 @@ impl<const N: usize> Text<N> {
         self.length = put_with_one(&mut self.letters, self.length, name, x);
     }
 
-    /// A name with two after it.
+    /// A name with two parts after it.
     #[inline]
     pub fn push_with_two<P: Spelled<N>, Q: Spelled<N>>(&mut self, name: &str, x: P, y: Q)
         ensures { self.new ≡ appended N self.old (line name.now (P.spelling x ∷ Q.spelling y ∷ [])) }
@@ -71,7 +71,7 @@ impl<const N: usize> Text<N> {
         self.length = put_another(&mut self.letters, end, y);
     }
 
-    /// A name with three after it.
+    /// A name with three parts after it.
     #[inline]
     pub fn push_with_three<P: Spelled<N>, Q: Spelled<N>, R: Spelled<N>>(
         &mut self,
